@@ -1,22 +1,20 @@
 -- What a phase begins with is kept under its locks.
-use Rattle.std.proofs.Common.{◌≡◌, ℕ, ◌<◌, ◌^◌, false, List, [], ◌∷◌, ◌++◌, length, refl, sym, ap, subst, ◌∙◌, append-nil, inl, inr}
-use Rattle.std.specs.Prelude.{IfSome, Option, Some, None, map, slice_get}
+use Rattle.std.proofs.Common.{◌≡◌, ℕ, false, List, [], ◌∷◌, ◌++◌, refl, sym, ap, subst, ◌∙◌, append-nil, inl, inr}
+use Rattle.std.specs.Prelude.{Option, Some, None, map, slice_get}
 use Rattle.mq_base.specs.Members.{Mem}
 use Rattle.mq_history.specs.declared.scenario.Scenario.{Scenario}
 use Rattle.mq_spec_node.specs.Terms.{Entry, ScriptPart}
-use Rattle.mq_spec_node.specs.Words.{NoneForeign}
 use Rattle.mq_spec_network.specs.Tasks.{Trying}
-use Rattle.mq_progress.specs.Course.{Course}
 use Rattle.mq_events.specs.States.{NodeState, IsServed}
-use Rattle.mq_acts.specs.Advances.{IsTextLine}
-use Rattle.mq_shared.specs.Took.{EndState}
-use Rattle.mq_shared.specs.Held.{Begun, EachIs, EndsApart, IsEndAt, IsScriptIn, Kept, KeptOwn, ScriptState, ScriptsApart, end_name, entries_begun, entries_or, script_name, script_with}
-use Rattle.mq_shared.specs.Phasing.{IsCourse, moment_or, tries_in, tries_one}
+use Rattle.mq_split.specs.Took.{EndState}
+use Rattle.mq_split.specs.Ends.{AreFree, EachIs, EndsApart, IsEndAt, end_name}
+use Rattle.mq_shared.specs.Held.{Begun, IsScriptIn, Kept, ScriptState, ScriptsApart, cables_begun, entries_begun, entries_or, script_name}
+use Rattle.mq_shared.specs.Phasing.{moment_or, tries_in, tries_one}
 use Rattle.mq_shared.proofs.ShareLists.{mem_right}
 
-pub kept_begun : (b : Begun) (m : ℕ) (n : NodeState) (ends : List EndState) (scripts : List ScriptState) → slice_get b.nodes m ≡ Some n → IsServed n → EachIs (IsEndAt b m (entries_begun b m) []) ends → EndsApart ends → slice_get b.ends m ≡ Some (map end_name ends)
-    → EachIs (IsScriptIn b m (entries_begun b m)) scripts → ScriptsApart scripts → slice_get b.scripts m ≡ Some (map script_name scripts) → Kept b (record { manager = m; node = n; ends = ends; scripts = scripts; wants = false })
-kept_begun b m n ends scripts there served are apart ends_named tried single scripts_named =
+pub kept_begun : (b : Begun) (m : ℕ) (n : NodeState) (ends : List EndState) (scripts : List ScriptState) → slice_get b.nodes m ≡ Some n → IsServed n → EachIs (IsEndAt (cables_begun b) m (entries_begun b m) []) ends → EndsApart ends → slice_get b.ends m ≡ Some (map end_name ends)
+    → EachIs (IsScriptIn b m (entries_begun b m)) scripts → ScriptsApart scripts → slice_get b.scripts m ≡ Some (map script_name scripts) → AreFree ends → Kept b (record { manager = m; node = n; ends = ends; scripts = scripts; wants = false })
+kept_begun b m n ends scripts there served are apart ends_named tried single scripts_named free =
     let begun : entries_begun b m ≡ n.history.entries = ap entries_or there in
     record {
       first = n;
@@ -25,30 +23,15 @@ kept_begun b m n ends scripts there served are apart ends_named tried single scr
       grows = record { given = refl; history = ap (λ (es : List Entry). record n.history { entries = es }) (sym (append-nil n.history.entries)) };
       marks = refl;
       phased = tt;
-      ends = λ i e at. subst (λ (d : List Entry). IsEndAt b m d [] e) begun (are i e at);
+      ends = λ i e at. subst (λ (d : List Entry). IsEndAt (cables_begun b) m d [] e) begun (are i e at);
       ends_apart = apart;
       end_names = ends_named;
       scripts = λ i s at. subst (λ (d : List Entry). IsScriptIn b m d s) (begun ∙ sym (append-nil n.history.entries)) (tried i s at);
       scripts_apart = single;
       script_names = scripts_named;
       ready = λ q. inl served;
+      free = λ q. free;
     }
-
-pub own_begun : (tells : Type 0) (b : Begun) (m : ℕ) (n : NodeState) (ends : List EndState) (scripts : List ScriptState) → slice_get b.nodes m ≡ Some n → KeptOwn tells b (record { manager = m; node = n; ends = ends; scripts = scripts; wants = false })
-own_begun tells b m n ends scripts there is none = subst NoneForeign (ap entries_or there) none
-
--- a script that goes under its lock
-pub script_begun : (b : Begun) (m k : ℕ) (p : ScriptPart) (moment : ℕ) (es : List Entry) (c : Course) → Mem (record { script = k; part = p; moment = moment }) b.tries → p.manager ≡ m → IsCourse k p es c → length p.lines < 2 ^ 32 → ((n : ℕ) → IfSome (slice_get p.lines n) IsTextLine)
-    → IsScriptIn b m es (script_with k p moment c)
-script_begun b m k p moment es c among here is short texts = record {
-  among = among;
-  here = here;
-  stands = is.stands;
-  few = is.few;
-  short = short;
-  texts = texts;
-  tried = λ l at. inl is.rests;
-}
 
 -- THE SCRIPTS OF A PHASE
 pub tried_in : (s : Scenario) (ns : List NodeState) (ks : List ℕ) (k : ℕ) (p : ScriptPart) → Mem k ks → slice_get s.scripts k ≡ Some p → Mem (record { script = k; part = p; moment = moment_or (slice_get ns p.manager) }) (tries_in s ns ks)

@@ -13,8 +13,9 @@ use Rattle.mq_events.specs.States.{NodeState, IsKept, IsServed, node_in, value_o
 use Rattle.mq_events.specs.Events.{MayAct}
 use Rattle.mq_acts.specs.Advances.{IsTextLine}
 use Rattle.mq_acts.specs.Serving.{AreTurns, IsDone}
-use Rattle.mq_shared.specs.Took.{EndState}
-use Rattle.mq_shared.specs.Held.{Begun, EachIs, EndsApart, Held, IsEndAt, IsScriptIn, Kept, ScriptState, ScriptsApart, end_name, script_name}
+use Rattle.mq_split.specs.Took.{EndState}
+use Rattle.mq_split.specs.Ends.{AreFree, EachIs, EndsApart, IsEndAt, end_name}
+use Rattle.mq_shared.specs.Held.{Begun, Held, IsScriptIn, Kept, ScriptState, ScriptsApart, cables_begun, script_name}
 use Rattle.mq_shared.specs.Events.{Stayed, Went}
 use Rattle.mq_shared.proofs.QuietLaws.{IsSilent, behind_silent}
 
@@ -132,9 +133,9 @@ short_at b h at s k is = (k.scripts at s is).short
 
 -- so many entries more
 pub kept_on : (b : Begun) (h : Held) (k : Kept b h) (es : List Entry) (new : NodeState) (ends : List EndState) (scripts : List ScriptState) (wants : Bool) → Went h.node es new → AllInPhase b.tries h.manager h.node.history.entries es
-    → EachIs (IsEndAt b h.manager k.first.history.entries (k.since ++ es)) ends → EndsApart ends → map end_name ends ≡ map end_name h.ends → EachIs (IsScriptIn b h.manager (h.node.history.entries ++ es)) scripts → ScriptsApart scripts → map script_name scripts ≡ map script_name h.scripts → (wants ≡ false → IsDone new)
+    → EachIs (IsEndAt (cables_begun b) h.manager k.first.history.entries (k.since ++ es)) ends → EndsApart ends → map end_name ends ≡ map end_name h.ends → EachIs (IsScriptIn b h.manager (h.node.history.entries ++ es)) scripts → ScriptsApart scripts → map script_name scripts ≡ map script_name h.scripts → (wants ≡ false → IsDone new) → (wants ≡ false → AreFree ends)
     → Kept b (record { manager = h.manager; node = new; ends = ends; scripts = scripts; wants = wants })
-kept_on b h k es new ends scripts wants w phased are apart ends_named tried single scripts_named ready =
+kept_on b h k es new ends scripts wants w phased are apart ends_named tried single scripts_named ready free =
     let first : List Entry = k.first.history.entries in
     let entries : h.node.history.entries ≡ first ++ k.since = grown_entries (value_of k.first) (value_of h.node) k.since k.grows in
     record {
@@ -151,4 +152,5 @@ kept_on b h k es new ends scripts wants w phased are apart ends_named tried sing
       scripts_apart = single;
       script_names = k.script_names ∙ ap Some (sym scripts_named);
       ready = ready;
+      free = free;
     }

@@ -13,16 +13,17 @@ use Rattle.mq_acts.specs.Serving.{IsDone}
 use Rattle.mq_ways.specs.Ways.{IsQuietEntry}
 use Rattle.mq_shared.specs.declared.trying.Tried.{Tried}
 use Rattle.mq_shared.specs.declared.trying.Tried.TheVariants as tries
-use Rattle.mq_shared.specs.Took.{EndState}
-use Rattle.mq_shared.specs.Held.{Begun, Held, IsEndAt, IsScriptIn, Kept, ScriptState, acts_as, entries_begun, faults_at, manager_at, script_name}
+use Rattle.mq_split.specs.Took.{EndState}
+use Rattle.mq_split.specs.Ends.{IsEndAt, acts_as, faults_at, manager_at}
+use Rattle.mq_shared.specs.Held.{Begun, Held, IsScriptIn, Kept, ScriptState, cables_begun, entries_begun, script_name}
 use Rattle.mq_shared.specs.Events.{LineMade, LineNot, LineTried, SameScript}
-use Rattle.mq_shared.proofs.EndLaws.{end_quiet}
+use Rattle.mq_split.proofs.EndLaws.{end_quiet}
 use Rattle.mq_shared.proofs.KeptLaws.{each_set, grown_entries, kept_on, made_in, names_set, pairs_set, served_stays, silent_behind, stayed_went}
 use Rattle.mq_shared.proofs.QuietLaws.{quiet_behind}
 use Rattle.mq_shared.proofs.ScriptLaws.{line_in, script_done, script_others, script_waits}
 
 -- an end of which none of these is a turn
-pub end_at_quiet : (b : Begun) (m : ℕ) (first since es : List Entry) (e : EndState) → AllByRecursion (IsQuietEntry (acts_as e.cable e.sends)) es → IsEndAt b m first since e → IsEndAt b m first (since ++ es) e
+pub end_at_quiet : (b : Begun) (m : ℕ) (first since es : List Entry) (e : EndState) → AllByRecursion (IsQuietEntry (acts_as e.cable e.sends)) es → IsEndAt (cables_begun b) m first since e → IsEndAt (cables_begun b) m first (since ++ es) e
 end_at_quiet b m first since es e q h = record {
   line = h.line;
   there = h.there;
@@ -44,7 +45,7 @@ other_script j k n = apart (k == j) refl
     apart true e = absurd (n (let same : j ≡ k = grind (arith, nat_tests) in same))
     apart false e = refl
 
-module _ (b : Begun) (h : Held) (at : ℕ) (s t : ScriptState) (new : NodeState) (k : Kept b h) (is : slice_get h.scripts at ≡ Some s) (kept : IsKept h.node) (later : IsKept new) where
+module _ (b : Begun) (h : Held) (at : ℕ) (s t : ScriptState) (new : NodeState) (k : Kept b h) (is : slice_get h.scripts at ≡ Some s) (kept : IsKept h.node) (later : IsKept new) (calm : h.wants ≡ false) where
   -- the lock's value behind it
   abbrev behind_it : Bool → Held
   behind_it wants = record { manager = h.manager; node = new; ends = h.ends; scripts = slice_set h.scripts at t; wants = wants }
@@ -73,7 +74,7 @@ module _ (b : Begun) (h : Held) (at : ℕ) (s t : ScriptState) (new : NodeState)
       (λ j u apart there. script_others b h.manager h.node.history.entries behind e u
       (ap (is_script u.script) x.made.actor ∙ other_script u.script s.script (λ same. apart (k.scripts_apart j at u s there is same))) x.made.turns
       (subst (λ (d : List Entry). IsScriptIn b h.manager d u) (sym entries) (k.scripts j u there))))
-      (single x.same) (named x.same) ready
+      (single x.same) (named x.same) ready (λ q. k.free calm)
     where
       e : Entry
       e = x.made.entry
@@ -84,10 +85,10 @@ module _ (b : Begun) (h : Held) (at : ℕ) (s t : ScriptState) (new : NodeState)
   not_kept : (wants : Bool) → LineNot s t h.node new → (wants ≡ false → IsDone new) → Kept b (behind_it wants)
   not_kept wants x ready =
       kept_on b h k [] new h.ends (slice_set h.scripts at t) wants (stayed_went h.node new x.stayed) tt
-      (λ i d there. subst (λ (es : List Entry). IsEndAt b h.manager k.first.history.entries es d) (sym (append-nil k.since)) (k.ends i d there)) k.ends_apart refl
+      (λ i d there. subst (λ (es : List Entry). IsEndAt (cables_begun b) h.manager k.first.history.entries es d) (sym (append-nil k.since)) (k.ends i d there)) k.ends_apart refl
       (each_set (IsScriptIn b h.manager (h.node.history.entries ++ [])) h.scripts at t (none_more t (script_waits b h.manager h.node.history.entries s t x.same x.memory x.done x.until mine))
       (λ j u apart there. none_more u (subst (λ (d : List Entry). IsScriptIn b h.manager d u) (sym entries) (k.scripts j u there))))
-      (single x.same) (named x.same) ready
+      (single x.same) (named x.same) ready (λ q. k.free calm)
     where
       none_more : (u : ScriptState) → IsScriptIn b h.manager h.node.history.entries u → IsScriptIn b h.manager (h.node.history.entries ++ []) u
       none_more u y = subst (λ (d : List Entry). IsScriptIn b h.manager d u) (sym (append-nil h.node.history.entries)) y

@@ -14,10 +14,11 @@ use Rattle.mq_progress.specs.Course.{Course, Stands}
 use Rattle.mq_progress.proofs.CourseLaws.{stands_others}
 use Rattle.mq_ways.specs.Ways.{CableState}
 use Rattle.mq_events.specs.States.{NodeState, value_of}
-use Rattle.mq_shared.specs.Facing.{AreJoined, Facing}
-use Rattle.mq_shared.specs.Took.{EndState}
-use Rattle.mq_shared.specs.Held.{Begun, IsEndAt, IsScriptIn, ScriptState, end_name, entries_begun, entries_or}
-use Rattle.mq_shared.specs.Parting.{AreEnds, AreEndsAt, IsAmong, ends_named}
+use Rattle.mq_split.specs.Facing.{AreJoined, Facing}
+use Rattle.mq_split.specs.Took.{EndState}
+use Rattle.mq_split.specs.Ends.{IsEndAt, end_name}
+use Rattle.mq_shared.specs.Held.{Begun, IsScriptIn, ScriptState, cables_begun, entries_begun, entries_or}
+use Rattle.mq_split.specs.Parting.{AreEnds, AreEndsAt, IsAmong, ends_named}
 use Rattle.mq_shared.specs.Phasing.{IsCourse, NodeRan, entries_in}
 use Rattle.mq_shared.specs.Sharing.{rested}
 use Rattle.mq_shared.specs.Taking.{AreOut, IsOut, since_of}
@@ -49,19 +50,19 @@ others_none b ns m far = ap (λ (o : Option NodeState). drop (length (entries_be
     none k = drop_none no_entries k (omega arith)
 
 -- THE ENDS
-pub out_ends : (b : Begun) (ns : List NodeState) (rows : List (List EndState)) (lines : List CableLine) → length ns ≡ length rows → AreOut b ns rows → ((m : ℕ) → m < length ns → slice_get b.ends m ≡ Some (ends_named lines m)) → AreEnds b (since_of b ns) (ends_named lines) rows
+pub out_ends : (b : Begun) (ns : List NodeState) (rows : List (List EndState)) (lines : List CableLine) → length ns ≡ length rows → AreOut b ns rows → ((m : ℕ) → m < length ns → slice_get b.ends m ≡ Some (ends_named lines m)) → AreEnds (cables_begun b) (since_of b ns) (ends_named lines) rows
 out_ends b ns rows lines same out names m es at = at_it (there ns m here)
   where
     here : m < length ns
     here = subst (λ (k : ℕ). m < k) (sym same) (less rows m es at)
 
-    at_it : (n : NodeState) × (slice_get ns m ≡ Some n) → AreEndsAt b (since_of b ns) (ends_named lines) m es
+    at_it : (n : NodeState) × (slice_get ns m ≡ Some n) → AreEndsAt (cables_begun b) (since_of b ns) (ends_named lines) m es
     at_it (n, is) =
         let x : IsOut b m n es = out m n es is at in
         let begun : entries_begun b m ≡ x.kept.first.history.entries = ap entries_or x.kept.there in
         record {
           names_are = some_is (map end_name es) (ends_named lines m) (sym x.kept.end_names ∙ names m here);
-          each = λ i e there2. subst (λ (d : List Entry). IsEndAt b m d (since_of b ns m) e) (sym begun) (subst (λ (d : List Entry). IsEndAt b m x.kept.first.history.entries d e) (sym (out_since b ns m n es is x)) (x.kept.ends i e there2));
+          each = λ i e there2. subst (λ (d : List Entry). IsEndAt (cables_begun b) m d (since_of b ns m) e) (sym begun) (subst (λ (d : List Entry). IsEndAt (cables_begun b) m x.kept.first.history.entries d e) (sym (out_since b ns m n es is x)) (x.kept.ends i e there2));
         }
 
 -- WHAT A MANAGER DID

@@ -10,13 +10,14 @@ use Rattle.mq_events.specs.States.{NodeState}
 use Rattle.mq_nodes.specs.declared.nodes.Stop.{Stop}
 use Rattle.mq_ways.specs.Ways.{CableState}
 use Rattle.mq_ways.proofs.WayLaws.{low_items}
-use Rattle.mq_shared.specs.declared.opening.Passes.{Passes}
-use Rattle.mq_shared.specs.declared.opening.Pipes.{Pipes}
-use Rattle.mq_shared.specs.Facing.{AreJoined}
-use Rattle.mq_shared.specs.Took.{EndState}
-use Rattle.mq_shared.specs.Held.{Begun, EachIs, EndsApart, entries_begun, entries_or}
-use Rattle.mq_shared.specs.Opening.{EachCable, IsLow, wholes}
-use Rattle.mq_shared.specs.Parting.{AreEnds, AreEndsAt, EndRowState, IsAmong, IsBegunOver, backs_of, ends_named, none_since, outs_of}
+use Rattle.mq_split.specs.declared.opening.Passes.{Passes}
+use Rattle.mq_split.specs.declared.opening.Pipes.{Pipes}
+use Rattle.mq_split.specs.Facing.{AreJoined}
+use Rattle.mq_split.specs.Took.{EndState}
+use Rattle.mq_split.specs.Ends.{AreFree, EachIs, EndsApart}
+use Rattle.mq_shared.specs.Held.{Begun, cables_begun, entries_begun, entries_or}
+use Rattle.mq_split.specs.Opening.{EachCable, IsLow, wholes}
+use Rattle.mq_split.specs.Parting.{AreEnds, AreEndsAt, EndRowState, IsAmong, IsBegunOver, backs_of, ends_named, none_since, outs_of}
 use Rattle.mq_shared.specs.Phasing.{IsCourse, MayPhase, PhaseEnds, PhaseOwn, PhaseRan, entries_in}
 use Rattle.mq_shared.specs.Sharing.{begun_with}
 use Rattle.mq_shared.specs.Taking.{AreBack, AreOut, Asked, Begins, CoursesBelow, EndsWait, NodesWait, OthersStay, OwnOut, since_of}
@@ -39,7 +40,7 @@ low_cables s ks ns cs ws may k c at =
     )
 
 module _ (s : Scenario) (ks : List ℕ) (ns : List NodeState) (cs : List Course) (ws : List CableState) (ps : List Pipes) (b : Begun) (may : MayPhase s ks ns cs ws) (is : b ≡ begun_with s ks ns (outs_of ps) (backs_of ps)) where
-  pub begun_over : (ls : List CableLine) → ls ≡ s.cables → IsBegunOver b ps ls
+  pub begun_over : (ls : List CableLine) → ls ≡ s.cables → IsBegunOver (cables_begun b) ps ls
   begun_over ls lines = record { lines = ap (λ (x : Begun). x.lines) is ∙ sym lines; outs = ap (λ (x : Begun). x.outs) is; backs = ap (λ (x : Begun). x.backs) is }
 
   pub joined_over : (ls : List CableLine) → ls ≡ s.cables → AreJoined ls (entries_begun b) ws
@@ -58,8 +59,8 @@ module _ (s : Scenario) (ks : List ℕ) (ns : List NodeState) (cs : List Course)
   pub among_over : (ls : List CableLine) (n : ℕ) → ls ≡ s.cables → n ≡ length ns → EachIs (IsAmong n) ls
   among_over ls n lines count = subst (λ (l : List CableLine). EachIs (IsAmong n) l) (sym lines) (cables_among s ks ns cs ws n may (sym count))
 
-  pub wait_over : (ls : List CableLine) (rows : List EndRowState) → ls ≡ s.cables → ((m : ℕ) (r : EndRowState) → slice_get rows m ≡ Some r → AreEndsAt b none_since (ends_named ls) m r.ends) → EachIs (λ (r : EndRowState). EndsApart r.ends) rows → EndsWait b (record { scenario = s; scripts = ks }) rows
-  wait_over ls rows lines ends apart m r at = (subst (λ (l : List CableLine). AreEndsAt b none_since (ends_named l) m r.ends) lines (ends m r at), apart m r at)
+  pub wait_over : (ls : List CableLine) (rows : List EndRowState) → ls ≡ s.cables → ((m : ℕ) (r : EndRowState) → slice_get rows m ≡ Some r → AreEndsAt (cables_begun b) none_since (ends_named ls) m r.ends) → EachIs (λ (r : EndRowState). EndsApart r.ends) rows → EachIs (λ (r : EndRowState). AreFree r.ends) rows → EndsWait b (record { scenario = s; scripts = ks }) rows
+  wait_over ls rows lines ends apart free m r at = (subst (λ (l : List CableLine). AreEndsAt (cables_begun b) none_since (ends_named l) m r.ends) lines (ends m r at), apart m r at, free m r at)
 
   pub few_managers : length ns ≤ 8
   few_managers = let few = may.scenario.few.managers.1 in omega (arith, few, may.managers)
@@ -68,10 +69,10 @@ module _ (s : Scenario) (ks : List ℕ) (ns : List NodeState) (cs : List Course)
   few_cables = let few = may.scenario.few.cables in omega (arith, few, may.cables)
 
   -- what came out
-  pub ends_over : (ls : List CableLine) (now : List NodeState) (rows : List (List EndState)) → ls ≡ s.cables → length now ≡ length ns → length rows ≡ length ns → AreOut b now rows → AreEnds b (since_of b now) (ends_named ls) rows
+  pub ends_over : (ls : List CableLine) (now : List NodeState) (rows : List (List EndState)) → ls ≡ s.cables → length now ≡ length ns → length rows ≡ length ns → AreOut b now rows → AreEnds (cables_begun b) (since_of b now) (ends_named ls) rows
   ends_over ls now rows lines count count_rows out =
-      subst (λ (x : Begun). AreEnds x (since_of x now) (ends_named ls) rows) (sym is)
-      (subst (λ (l : List CableLine). AreEnds (begun_with s ks ns (outs_of ps) (backs_of ps)) (since_of (begun_with s ks ns (outs_of ps) (backs_of ps)) now) (ends_named l) rows) (sym lines)
+      subst (λ (x : Begun). AreEnds (cables_begun x) (since_of x now) (ends_named ls) rows) (sym is)
+      (subst (λ (l : List CableLine). AreEnds (cables_begun (begun_with s ks ns (outs_of ps) (backs_of ps))) (since_of (begun_with s ks ns (outs_of ps) (backs_of ps)) now) (ends_named l) rows) (sym lines)
       (ends_out s ks ns ws cs (outs_of ps) (backs_of ps) may now rows count count_rows (subst (λ (x : Begun). AreOut x now rows) is out)))
 
   pub own_over : (now : List NodeState) → OwnOut b now → PhaseOwn ns now

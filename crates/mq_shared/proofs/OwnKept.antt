@@ -12,7 +12,7 @@ use Rattle.mq_acts.specs.Serving.{AreTurns}
 use Rattle.mq_acts.proofs.OwnLaws.{IsNoRestart, NoRestarts, grows_own}
 use Rattle.mq_turns.specs.declared.telling.Turn.{Turn}
 use Rattle.mq_turns.specs.declared.telling.Turn.TheVariants as turns
-use Rattle.mq_shared.specs.Took.{EndState}
+use Rattle.mq_split.specs.Took.{EndState}
 use Rattle.mq_shared.specs.Events.{Made, Stayed, TimeTried, TurnTried}
 
 -- nothing, and one after the other
@@ -21,9 +21,6 @@ own_same tells a is none = none
 
 pub own_then : (tells : Type 0) (a b c : List Entry) → (tells → StaysOwn a b) → StaysOwn b c → tells → StaysOwn a c
 own_then tells a b c first more is none = more (first is none)
-
-pub own_on : (tells : Type 0) (a b c : List Entry) → (tells → StaysOwn a b) → (tells → StaysOwn b c) → tells → StaysOwn a c
-own_on tells a b c first more is none = more is (first is none)
 
 -- trigger turns are no restarts
 none_behind : (es : List Entry) → AreTurns es → NoRestarts es

@@ -1,6 +1,6 @@
 -- A phase that ran, and one that did nothing.
 use Rattle.std.proofs.Common.{◌≡◌, ℕ, ◌≤◌, ◌<◌, Bool, true, false, List, [], ◌++◌, length, refl, sym, ap, subst, ◌∙◌, append-nil, ⊎_elim, arith}
-use Rattle.std.specs.Prelude.{Some, Result, slice_get}
+use Rattle.std.specs.Prelude.{Some, Result, Ok, Err, slice_get}
 use Rattle.atomic_table.specs.Seated.{TableId}
 use Rattle.mq_base.specs.Members.{Mem}
 use Rattle.mq_history.specs.Scenarios.{IsCable}
@@ -10,12 +10,15 @@ use Rattle.mq_spec_node.specs.Words.{NoneForeign}
 use Rattle.mq_progress.specs.Course.{Course}
 use Rattle.mq_events.specs.States.{NodeState}
 use Rattle.mq_nodes.specs.declared.nodes.Stop.{Stop}
+use Rattle.mq_nodes.specs.declared.nodes.Stop.TheVariants as stops
 use Rattle.mq_ways.specs.Ways.{CableState}
-use Rattle.mq_shared.specs.Facing.{AreJoined}
-use Rattle.mq_shared.specs.Took.{EndState}
-use Rattle.mq_shared.specs.Held.{Begun, EachIs, entries_begun, entries_or}
-use Rattle.mq_shared.specs.Parting.{AreEnds, IsAmong, ends_named}
-use Rattle.mq_shared.specs.Phasing.{IsCourse, MayPhase, NodeRan, PhaseEnds, PhaseOwn, PhaseRan, entries_in, tries_in}
+use Rattle.mq_split.specs.Facing.{AreJoined}
+use Rattle.mq_split.specs.Opening.{EachCable, IsShort}
+use Rattle.mq_split.specs.Took.{EndState}
+use Rattle.mq_split.specs.Ends.{EachIs}
+use Rattle.mq_shared.specs.Held.{Begun, cables_begun, entries_begun, entries_or}
+use Rattle.mq_split.specs.Parting.{AreEnds, IsAmong, ends_named}
+use Rattle.mq_shared.specs.Phasing.{IsCourse, MayPhase, NodeRan, PhaseEnds, PhaseOwn, PhaseRan, ShortBehind, entries_in, tries_in}
 use Rattle.mq_shared.specs.Sharing.{among, begun_with}
 use Rattle.mq_shared.specs.Taking.{AreBack, AreOut, Asked, Begins, IsOut, OthersStay, OwnOut, since_of}
 use Rattle.mq_shared.proofs.OutLaws.{course_stays, joined_on, others_none, out_ends, out_entries, out_ran}
@@ -44,8 +47,15 @@ nothing_ran s ks ns cs ws r may ends = record {
       keeps = may.kept m n at;
     }
 
-pub nothing_own : (ns : List NodeState) → PhaseOwn ns ns
-nothing_own ns m n new at again none = subst (λ (x : NodeState). NoneForeign x.history.entries) (some_is n new (sym at ∙ again)) none
+-- HOW MUCH LIES THERE
+short_any : (r : Result (Unit {0}) Stop) (ws : List CableState) → EachCable IsShort ws → ShortBehind r ws
+short_any (Ok x) ws h = h
+short_any (Err stops.NoMemory) ws h = tt
+short_any (Err (stops.Spent m)) ws h = h
+
+pub short_behind : (wants : Bool) (r : Result (Unit {0}) Stop) (ws : List CableState) → (wants ≡ true → r ≡ Err stops.NoMemory) → (wants ≡ false → EachCable IsShort ws) → ShortBehind r ws
+short_behind true r ws lacks h = subst (λ (x : Result (Unit {0}) Stop). ShortBehind x ws) (sym (lacks refl)) tt
+short_behind false r ws lacks h = short_any r ws (h refl)
 
 -- IT RAN
 pub begins_so : (s : Scenario) (ks : List ℕ) (ns : List NodeState) (cs : List Course) (ws : List CableState) (outs backs : List TableId) → MayPhase s ks ns cs ws → Begins (record { scenario = s; scripts = ks }) (begun_with s ks ns outs backs)
@@ -66,7 +76,7 @@ module _ (s : Scenario) (ks : List ℕ) (old : List NodeState) (was : List Cable
   abbrev asked : Asked
   asked = record { scenario = s; scripts = ks }
 
-  pub ends_out : (ns : List NodeState) (rows : List (List EndState)) → length ns ≡ length old → length rows ≡ length old → AreOut begun ns rows → AreEnds begun (since_of begun ns) (ends_named s.cables) rows
+  pub ends_out : (ns : List NodeState) (rows : List (List EndState)) → length ns ≡ length old → length rows ≡ length old → AreOut begun ns rows → AreEnds (cables_begun begun) (since_of begun ns) (ends_named s.cables) rows
   ends_out ns rows count count_rows out = out_ends begun ns rows s.cables (count ∙ sym count_rows) out (λ m lt. by_at (ends_named s.cables) (length s.managers) m (omega (arith, lt, count, may.managers)))
 
   pub own_out : (ns : List NodeState) → OwnOut begun ns → PhaseOwn old ns

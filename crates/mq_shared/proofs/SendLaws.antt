@@ -26,8 +26,8 @@ use Rattle.mq_events.specs.contracts.state.NodeParts.TheInside as parts
 use Rattle.mq_events.specs.contracts.node.Node as Node
 use Rattle.mq_events.specs.contracts.node.Node.TheInside as node
 use Rattle.mq_shared.specs.declared.locked.PhaseName.{Ghosts as PhaseGhosts}
-use Rattle.mq_shared.proofs.held.HeldEnd.TheSendSync as end
-use Rattle.mq_shared.specs.contracts.held.HeldEnd as HeldEnd
+use Rattle.mq_split.proofs.ends.HeldEnd.TheSendSync as end
+use Rattle.mq_split.specs.contracts.ends.HeldEnd as HeldEnd
 use Rattle.mq_shared.proofs.held.HeldScript.TheSendSync as script
 use Rattle.mq_shared.specs.contracts.held.HeldScript as HeldScript
 use Rattle.mq_shared.specs.contracts.locked.Locked as Locked

@@ -8,7 +8,8 @@ use Rattle.mq_spec_node.specs.Terms.{ScriptPart}
 use Rattle.mq_spec_network.specs.Tasks.{Trying}
 use Rattle.mq_progress.specs.Course.{Course}
 use Rattle.mq_events.specs.States.{NodeState}
-use Rattle.mq_shared.specs.Held.{Begun, EachIs, IsScriptIn, ScriptState, ScriptsApart, entries_begun, script_name}
+use Rattle.mq_split.specs.Ends.{EachIs}
+use Rattle.mq_shared.specs.Held.{Begun, IsScriptIn, ScriptState, ScriptsApart, entries_begun, script_name}
 use Rattle.mq_shared.specs.Phasing.{moment_or, tries_in, tries_one}
 use Rattle.mq_shared.specs.Sharing.{among, by_manager, first_if, is_here, last_if, named_from, out_if, put_all, rested, unbegun}
 use Rattle.mq_shared.specs.Taking.{Asked, Begins, CoursesAt}

@@ -161,3 +161,7 @@ none_at xs m x none e = nothing m (ap (λ (ys : List _). slice_get ys m) (sym no
   where
     nothing : {A : Type 0} {y : A} (n : ℕ) → slice_get [] n ≡ Some y → ⊥
     nothing n h = absurd cc
+
+-- a list that is not empty has one at least
+pub some_there : (n : ℕ) → false ≡ (n == 0) → 0 < n
+some_there n h = grind (arith, nat_tests, h)

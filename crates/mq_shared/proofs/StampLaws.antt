@@ -55,8 +55,20 @@ deed_stamp : (s : ℕ) (d : Deed) (n : Node) (f : Frame) → PushesOr s (Some d)
 deed_stamp s d n f (inl none) is = absurd (let no_ : None ≡ Some f = sym none ∙ is in cc)
 deed_stamp s d n f (inr p) is = p.stamped f is
 
-pub pushed_stamp : (who : Actor) (n : Node) (last : ℕ) (e : Entry) (g : Frame) → IsEnd who → Tells n last e → e.actor ≡ who → e.call ≡ calls.Turn → e.effect.pushed ≡ Some g → g.stamp ≡ e.stamp
-pushed_stamp who n last e g end t actor call is = deed_stamp e.stamp comes.deed n g pushes_so (sym pushed_is ∙ is)
+-- what an entry tells of an end's turn: its deed, and what it offers
+pub record TurnTold (who : Actor) (n : Node) (e : Entry) : Type 0 where
+  pub deed : Deed
+  pub is : deed_of e.stamp who calls.Turn e.effect.popped n ≡ Some deed
+  pub pushed : e.effect.pushed ≡ deed.pushed
+  pub stamped : (g : Frame) → e.effect.pushed ≡ Some g → g.stamp ≡ e.stamp
+
+pub turn_told : (who : Actor) (n : Node) (last : ℕ) (e : Entry) → IsEnd who → Tells n last e → e.actor ≡ who → e.call ≡ calls.Turn → TurnTold who n e
+turn_told who n last e end t actor call = record {
+  deed = comes.deed;
+  is = comes.is;
+  pushed = pushed_is;
+  stamped = λ g is. deed_stamp e.stamp comes.deed n g pushes_so (sym pushed_is ∙ is);
+}
   where
     deed : Option Deed
     deed = deed_of e.stamp who calls.Turn e.effect.popped n
@@ -78,7 +90,7 @@ pushed_stamp who n last e g end t actor call is = deed_stamp e.stamp comes.deed 
     pushed_is = as_deed e.stamp comes.deed n comes.choice e.effect.pushed pushes_so comes.can comes.told
 
 -- an entry that pops offers nothing
-popped_silent : (seen : Seen) (pushed : Option Frame) (call : Call) (actor : Actor) → IsPop seen pushed call actor → (seen ≡ items.Nothing) ⊎ (pushed ≡ None)
+pub popped_silent : (seen : Seen) (pushed : Option Frame) (call : Call) (actor : Actor) → IsPop seen pushed call actor → (seen ≡ items.Nothing) ⊎ (pushed ≡ None)
 popped_silent items.Nothing pushed call actor h = inl refl
 popped_silent items.Spoiled None call actor h = inr refl
 popped_silent items.Spoiled (Some f) call actor h = absurd h
@@ -96,7 +108,7 @@ few_stamp n s k h e2 = by_test (nat_le (2 ^ 48) k) (nat_le (2 ^ 60) n) refl h
 -- so a frame that is offered has a stamp of at most 2^60
 pub pushed_low : (who : Actor) (old : NodeState) (e : Entry) (g : Frame) → IsEnd who → MayAct old → Tells (node_in old) old.stamp e → e.actor ≡ who → e.call ≡ calls.Turn → e.effect.pushed ≡ Some g → g.stamp ≤ 2 ^ 60
 pushed_low who old e g end may t actor call is =
-    subst (λ (n : ℕ). n ≤ 2 ^ 60) (sym (pushed_stamp who (node_in old) old.stamp e g end t actor call is)) (few_stamp old.stamp e.stamp (length old.history.entries) may next)
+    subst (λ (n : ℕ). n ≤ 2 ^ 60) (sym ((turn_told who (node_in old) old.stamp e end t actor call).stamped g is)) (few_stamp old.stamp e.stamp (length old.history.entries) may next)
   where
     none : (e.effect.popped ≡ items.Nothing) ⊎ (e.effect.pushed ≡ None) → e.effect.popped ≡ items.Nothing
     none (inl x) = x

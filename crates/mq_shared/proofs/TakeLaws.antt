@@ -8,9 +8,10 @@ use Rattle.mq_progress.specs.Course.{Course}
 use Rattle.mq_events.specs.States.{IsKept, NodeState, value_of}
 use Rattle.mq_acts.specs.Serving.{IsDone}
 use Rattle.mq_acts.specs.Restarts.{StaysOwn}
-use Rattle.mq_shared.specs.Took.{EndState}
-use Rattle.mq_shared.specs.Held.{Begun, EachIs, EndsApart, IsScriptIn, Kept, ScriptState, entries_begun, entries_or, script_name}
-use Rattle.mq_shared.specs.Parting.{AreEndsAt, ends_named, none_since}
+use Rattle.mq_split.specs.Took.{EndState}
+use Rattle.mq_split.specs.Ends.{AreFree, EachIs, EndsApart}
+use Rattle.mq_shared.specs.Held.{Begun, IsScriptIn, Kept, ScriptState, cables_begun, entries_begun, entries_or, script_name}
+use Rattle.mq_split.specs.Parting.{AllFree, AreEndsAt, ends_named, none_since}
 use Rattle.mq_shared.specs.Phasing.{IsCourse, entries_in}
 use Rattle.mq_shared.specs.Sharing.{among, is_here, named, named_from, put_all, rested}
 use Rattle.mq_shared.specs.Taking.{AreBack, AreDone, AreOut, Asked, Begins, CoursesBelow, IsOut, OthersStay, OwnOut}
@@ -153,15 +154,19 @@ own_more b ns new_ns n more one own = each_more (λ m x. StaysOwn (entries_begun
 pub done_more : (ns new_ns : List NodeState) (n : NodeState) → new_ns ≡ ns ++ n ∷ [] → IsDone n → AreDone ns → AreDone new_ns
 done_more ns new_ns n more one done = each_more (λ m x. IsDone x) ns new_ns n more one done
 
+pub free_more : (rows new_rows : List (List EndState)) (es : List EndState) → new_rows ≡ rows ++ es ∷ [] → AreFree es → AllFree rows → AllFree new_rows
+free_more rows new_rows es more one all = each_more (λ m x. AreFree x) rows new_rows es more one all
+
 -- a manager's node goes under its lock
-pub lock_kept : (a : Asked) (b : Begun) (m : ℕ) (n : NodeState) (es : List EndState) (ss : List ScriptState) → Begins a b → slice_get b.nodes m ≡ Some n → AreEndsAt b none_since (ends_named a.scenario.cables) m es → EndsApart es → map script_name ss ≡ named a.scenario a.scripts m
+pub lock_kept : (a : Asked) (b : Begun) (m : ℕ) (n : NodeState) (es : List EndState) (ss : List ScriptState) → Begins a b → slice_get b.nodes m ≡ Some n → AreEndsAt (cables_begun b) none_since (ends_named a.scenario.cables) m es → EndsApart es → AreFree es → map script_name ss ≡ named a.scenario a.scripts m
     → EachIs (IsScriptIn b m (entries_begun b m)) ss → Kept b (record { manager = m; node = n; ends = es; scripts = ss; wants = false })
-lock_kept a b m n es ss begins at ends apart names each =
+lock_kept a b m n es ss begins at ends apart free names each =
     let lt : m < length a.scenario.managers = (let l = less b.nodes m n at in omega (arith, l, begins.all)) in
     kept_begun b m n es ss at (begins.ready m n at).0 ends.each apart
     (ap (λ (x : Begun). slice_get x.ends m) begins.begun ∙ by_at (ends_named a.scenario.cables) (length a.scenario.managers) m lt ∙ ap Some (sym ends.names_are))
     each (scripts_apart a.scripts m a.scenario.scripts ss names)
     (ap (λ (x : Begun). slice_get x.scripts m) begins.begun ∙ by_at (named a.scenario a.scripts) (length a.scenario.managers) m lt ∙ ap Some (sym names))
+    free
 
 -- one more is taken out
 pub taken_on : (a : Asked) (b : Begun) (place : ℕ) (ns new_ns : List NodeState) (rows new_rows : List (List EndState)) (cs new_cs first : List Course) (n : NodeState) (es : List EndState) (ss : List ScriptState) (wants : Bool) → Begins a b → place ≡ length ns

@@ -1,6 +1,6 @@
 -- What a try of a line, a turn and a timeout come to, by the calls that do them.
 use Rattle.std.proofs.Common.{◌≡◌, ℕ, Bool, true, false, List, [], ◌∷◌, refl, sym, ap, subst, ◌∙◌, inl, inr}
-use Rattle.std.specs.Prelude.{IfSome, Option, Some, None, Result, Ok, Err, slice_get}
+use Rattle.std.specs.Prelude.{IfSome, Option, Some, None, OnOk, Result, Ok, Err, slice_get}
 use Rattle.mq_base.specs.declared.want.NoMemory.{NoMemory as Want}
 use Rattle.mq_cable.specs.declared.item.Item.{Item}
 use Rattle.mq_cable.specs.Offers.{Offering}
@@ -24,9 +24,10 @@ use Rattle.mq_turns.specs.Turns.{TimeoutIs}
 use Rattle.mq_turns.specs.Unseen.{EndTurn}
 use Rattle.mq_turns.specs.Wired.{ChangedBy, IsStill, TurnIs, Untaken}
 use Rattle.mq_ruled.specs.Ends.{PipeTook, PipeWrote}
-use Rattle.mq_shared.specs.Took.{EndState}
-use Rattle.mq_shared.specs.Held.{ScriptState, end_actor}
-use Rattle.mq_shared.specs.Events.{LineMade, LineNot, Made, SameEnd, Stayed, TurnMade, TurnNot}
+use Rattle.mq_split.specs.Took.{EndState}
+use Rattle.mq_split.specs.Ends.{end_actor}
+use Rattle.mq_shared.specs.Held.{ScriptState}
+use Rattle.mq_shared.specs.Events.{LineMade, LineNot, Made, SameEnd, Stayed, TurnMade, TurnNot, TurnTried}
 use Rattle.mq_shared.proofs.KeptLaws.{grows_on}
 
 pub stays_so : (old new : NodeState) → Stays old new → Stayed old new
@@ -182,6 +183,17 @@ turn_not none full deed a b old new same r still h = from_it (subst (λ (x : Tur
   where
     from_it : Untaken (λ (xs : List Item). PipeTook a.wire xs b.wire) (λ (xs : List Item). PipeWrote a.wire xs b.wire) a.offers b.offers old new × IsStill none full a.offers deed → TurnNot a b old new
     from_it x = turn_none a b old new same x.0
+
+-- whatever it came to, it may be told as want of memory
+pub turn_lost : (none full : Type 0) (a b : EndState) (old new : NodeState) (r : Result Turn Want) (e : Want) → TurnTried none full a old r b new → TurnTried none full a old (Err e) b new
+turn_lost none full a b old new (Ok turns.Changed) e (x, done) = inr x
+turn_lost none full a b old new (Ok turns.Still) e x = inl x
+turn_lost none full a b old new (Err f) e x = x
+
+-- what is so is so of its Ok
+pub on_ok : {T E : Type 0} (P : Type 0) (r : Result T E) → P → OnOk r P
+on_ok P (Ok x) h = h
+on_ok P (Err e) h = tt
 
 -- A TIMEOUT
 pub time_made : (cable : ℕ) (d : Option Deed) (old mid new : NodeState) → TimeoutIs cable d old (Ok turns.Changed) mid → Serves mid new → Made (actors.Sender cable) calls.Timeout old new

@@ -1,6 +1,6 @@
 -- A turn of an end, and a timeout, keep what is kept under a lock.
 use Rattle.std.proofs.Common.{◌≡◌, ℕ, ◌+◌, ◌≤◌, ◌^◌, Bool, true, false, List, [], ◌∷◌, ◌++◌, refl, sym, ap, subst, ◌∙◌, append-nil, inl, inr, arith}
-use Rattle.std.specs.Prelude.{◌==◌, not, Option, Some, None, Result, Ok, Err, map, slice_get, slice_set}
+use Rattle.std.specs.Prelude.{◌==◌, Err, None, Ok, OnOk, Option, Result, Some, map, not, slice_get, slice_set}
 use Rattle.std.specs.Result.{is_err}
 use Rattle.std.specs.List.{AllByRecursion}
 use Rattle.std.proofs.lemmas.Bool.Decides.{nat_tests}
@@ -28,12 +28,13 @@ use Rattle.mq_turns.specs.declared.telling.Turn.{Turn}
 use Rattle.mq_turns.specs.declared.telling.Turn.TheVariants as turns
 use Rattle.mq_turns.specs.Wired.{Offered, Popped}
 use Rattle.mq_ruled.specs.Ends.{PipeTook, PipeWrote}
-use Rattle.mq_shared.specs.Facing.{Facing}
-use Rattle.mq_shared.specs.Took.{EndState, Took, way}
-use Rattle.mq_shared.specs.Held.{Begun, EachIs, EndsApart, Held, IsEndAt, IsScriptIn, Kept, acts_as, end_actor, end_name, entries_begun, faults_at, manager_at}
+use Rattle.mq_split.specs.Facing.{Facing}
+use Rattle.mq_split.specs.Took.{EndState, Took, way}
+use Rattle.mq_split.specs.Ends.{AreFree, EachIs, EndsApart, IsEndAt, acts_as, end_actor, end_name, faults_at, manager_at}
+use Rattle.mq_shared.specs.Held.{Begun, Held, IsScriptIn, Kept, cables_begun, entries_begun}
 use Rattle.mq_shared.specs.Events.{Made, SameEnd, Stayed, TimeTried, TurnMade, TurnNot, TurnTried}
 use Rattle.mq_shared.proofs.DeedLaws.{IsEnd, a_receiver, a_sender}
-use Rattle.mq_shared.proofs.EndLaws.{EndOffers, EndTakes, end_turned}
+use Rattle.mq_split.proofs.EndLaws.{EndOffers, EndTakes, end_turned}
 use Rattle.mq_shared.proofs.KeptLaws.{each_set, grown_entries, kept_on, made_in, names_set, pairs_set, served_stays, silent_behind, stayed_went, tells_here}
 use Rattle.mq_shared.proofs.LineKept.{end_at_quiet}
 use Rattle.mq_shared.proofs.QuietLaws.{IsSilent, quiet_behind, silent_quiet}
@@ -44,7 +45,7 @@ use Rattle.mq_shared.proofs.StampLaws.{pushed_low, timeout_silent}
 same_number : (k : ℕ) → (k == k) ≡ true
 same_number k = grind (arith, nat_tests)
 
-acts_here : (k : ℕ) (sends : Bool) → acts_as k sends (end_actor k sends) ≡ true
+pub acts_here : (k : ℕ) (sends : Bool) → acts_as k sends (end_actor k sends) ≡ true
 acts_here k true = same_number k
 acts_here k false = same_number k
 
@@ -65,7 +66,7 @@ no_script : (k j : ℕ) (sends : Bool) → is_script k (end_actor j sends) ≡ f
 no_script k j true = refl
 no_script k j false = refl
 
-an_end : (k : ℕ) (sends : Bool) → IsEnd (end_actor k sends)
+pub an_end : (k : ℕ) (sends : Bool) → IsEnd (end_actor k sends)
 an_end k true = a_sender k
 an_end k false = a_receiver k
 
@@ -114,15 +115,15 @@ wrote_out fs mine theirs ws peer full a b e f (inr x) = (x.offered.pushed (offer
 as_named : (c d : EndState) → SameEnd c d → record { cable = c.cable; sends = c.sends; offers = d.offers; wire = d.wire } ≡ d
 as_named c d same = λ i. record { cable = sym same.cable i; sends = sym same.sends i; offers = d.offers; wire = d.wire }
 
-renamed : (b : Begun) (m : ℕ) (first since : List Entry) (c d : EndState) → SameEnd c d → IsEndAt b m first since (record { cable = c.cable; sends = c.sends; offers = d.offers; wire = d.wire }) → IsEndAt b m first since d
-renamed b m first since c d same h = subst (λ (x : EndState). IsEndAt b m first since x) (as_named c d same) h
+renamed : (b : Begun) (m : ℕ) (first since : List Entry) (c d : EndState) → SameEnd c d → IsEndAt (cables_begun b) m first since (record { cable = c.cable; sends = c.sends; offers = d.offers; wire = d.wire }) → IsEndAt (cables_begun b) m first since d
+renamed b m first since c d same h = subst (λ (x : EndState). IsEndAt (cables_begun b) m first since x) (as_named c d same) h
 
 -- AN END BEHIND ITS TURN
 end_at_turned : (b : Begun) (m : ℕ) (first since behind : List Entry) (e : Entry) (full : Type 0) (c d : EndState) → SameEnd c d → e.actor ≡ end_actor c.cable c.sends → EndTakes c d (stamp_after (stamp_after 0 first) since) e → EndOffers full c d e → AllByRecursion IsSilent behind
-    → IsEndAt b m first since c → IsEndAt b m first (since ++ e ∷ behind) d
+    → IsEndAt (cables_begun b) m first since c → IsEndAt (cables_begun b) m first (since ++ e ∷ behind) d
 end_at_turned b m first since behind e full c d same actor takes offers silent h =
     renamed b m first (since ++ e ∷ behind) c d same
-    (subst (λ (es : List Entry). IsEndAt b m first es x) (append_assoc_one since e behind) (end_at_quiet b m first (since ++ e ∷ []) behind x (silent_quiet (acts_as c.cable c.sends) behind silent) here))
+    (subst (λ (es : List Entry). IsEndAt (cables_begun b) m first es x) (append_assoc_one since e behind) (end_at_quiet b m first (since ++ e ∷ []) behind x (silent_quiet (acts_as c.cable c.sends) behind silent) here))
   where
     append_assoc_one : (xs : List Entry) (y : Entry) (ys : List Entry) → (xs ++ y ∷ []) ++ ys ≡ xs ++ y ∷ ys
     append_assoc_one xs y ys = Rattle.std.proofs.Common.append_assoc xs (y ∷ []) ys
@@ -136,7 +137,7 @@ end_at_turned b m first since behind e full c d same actor takes offers silent h
     peer : List Entry
     peer = entries_begun b (manager_at h.line (not c.sends))
 
-    here : IsEndAt b m first (since ++ e ∷ []) x
+    here : IsEndAt (cables_begun b) m first (since ++ e ∷ []) x
     here = record {
       line = h.line;
       there = h.there;
@@ -148,10 +149,10 @@ end_at_turned b m first since behind e full c d same actor takes offers silent h
     }
 
 -- where it took none
-end_at_still : (b : Begun) (m : ℕ) (first since : List Entry) (c d : EndState) → SameEnd c d → PipeTook c.wire [] d.wire → d.offers ≡ c.offers → PipeWrote c.wire [] d.wire → IsEndAt b m first since c → IsEndAt b m first (since ++ []) d
+end_at_still : (b : Begun) (m : ℕ) (first since : List Entry) (c d : EndState) → SameEnd c d → PipeTook c.wire [] d.wire → d.offers ≡ c.offers → PipeWrote c.wire [] d.wire → IsEndAt (cables_begun b) m first since c → IsEndAt (cables_begun b) m first (since ++ []) d
 end_at_still b m first since c d same took offers wrote h =
     renamed b m first (since ++ []) c d same
-    (subst (λ (es : List Entry). IsEndAt b m first es x) (sym (append-nil since)) (record {
+    (subst (λ (es : List Entry). IsEndAt (cables_begun b) m first es x) (sym (append-nil since)) (record {
       line = h.line;
       there = h.there;
       here = h.here;
@@ -172,7 +173,7 @@ end_at_still b m first since c d same took offers wrote h =
     peer : List Entry
     peer = entries_begun b (manager_at h.line (not c.sends))
 
-module _ (b : Begun) (h : Held) (new : NodeState) (k : Kept b h) (kept : IsKept h.node) (later : IsKept new) where
+module _ (b : Begun) (h : Held) (new : NodeState) (k : Kept b h) (kept : IsKept h.node) (later : IsKept new) (calm : h.wants ≡ false) where
   abbrev first : List Entry
   first = k.first.history.entries
 
@@ -190,8 +191,8 @@ module _ (b : Begun) (h : Held) (new : NodeState) (k : Kept b h) (kept : IsKept 
   scripts_still : EachIs (IsScriptIn b h.manager (h.node.history.entries ++ [])) h.scripts
   scripts_still i s at = subst (λ (d : List Entry). IsScriptIn b h.manager d s) (sym (append-nil h.node.history.entries ∙ entries)) (k.scripts i s at)
 
-  ends_still : EachIs (IsEndAt b h.manager first (k.since ++ [])) h.ends
-  ends_still i d at = subst (λ (es : List Entry). IsEndAt b h.manager first es d) (sym (append-nil k.since)) (k.ends i d at)
+  ends_still : EachIs (IsEndAt (cables_begun b) h.manager first (k.since ++ [])) h.ends
+  ends_still i d at = subst (λ (es : List Entry). IsEndAt (cables_begun b) h.manager first es d) (sym (append-nil k.since)) (k.ends i d at)
 
   -- A TIMEOUT
   abbrev timed : Bool → Held
@@ -201,13 +202,13 @@ module _ (b : Begun) (h : Held) (new : NodeState) (k : Kept b h) (kept : IsKept 
   time_made j wants x ready =
       kept_on b h k (x.entry ∷ x.behind) new h.ends h.scripts wants x.went (made_in b.tries h.manager h.node.history.entries x.entry x.behind (time_in b.tries h.node.history.entries h.manager j x.entry x.actor x.call) x.turns)
       (λ i d at. end_at_quiet b h.manager first k.since (x.entry ∷ x.behind) d (quiet_behind (acts_as d.cable d.sends) x.entry x.behind (inr silent) (silent_behind h.node new x.entry x.behind later x.went x.turns)) (k.ends i d at)) k.ends_apart refl
-      (scripts_on x.entry x.behind j true x.actor x.turns) k.scripts_apart refl ready
+      (scripts_on x.entry x.behind j true x.actor x.turns) k.scripts_apart refl ready (λ q. k.free calm)
     where
       silent : (x.entry.effect.pushed ≡ None) × (is_popped x.entry ≡ false)
       silent = timeout_silent j h.node.stamp (node_in h.node) x.entry (tells_here h.node new x.entry x.behind kept later x.went) x.actor x.call
 
   time_not : (wants : Bool) → Stayed h.node new → (wants ≡ false → IsDone new) → Kept b (timed wants)
-  time_not wants x ready = kept_on b h k [] new h.ends h.scripts wants (stayed_went h.node new x) tt ends_still k.ends_apart refl scripts_still k.scripts_apart refl ready
+  time_not wants x ready = kept_on b h k [] new h.ends h.scripts wants (stayed_went h.node new x) tt ends_still k.ends_apart refl scripts_still k.scripts_apart refl ready (λ q. k.free calm)
 
   pub time_kept : (j : ℕ) (r : Result Turn NoMemory) → IsServed h.node → TimeTried j h.node r new → Kept b (timed (is_err r))
   time_kept j (Ok turns.Changed) served (x, done) = time_made j false x (λ q. done)
@@ -228,13 +229,16 @@ module _ (b : Begun) (h : Held) (new : NodeState) (k : Kept b h) (kept : IsKept 
     named_still : SameEnd c d → map end_name (slice_set h.ends at d) ≡ map end_name h.ends
     named_still same = names_set end_name h.ends at c d is (λ i. (same.cable i, same.sends i))
 
-    turn_made : (none full : Type 0) (wants : Bool) → TurnMade none full c d h.node new → (wants ≡ false → IsDone new) → Kept b (turned wants)
-    turn_made none full wants x ready =
+    free_on : (wants : Bool) → (wants ≡ false → d.wire.fetched ≡ None) → wants ≡ false → AreFree (slice_set h.ends at d)
+    free_on wants free q = each_set (λ (e : EndState). e.wire.fetched ≡ None) h.ends at d (free q) (λ j u apart there. k.free calm j u there)
+
+    turn_made : (none full : Type 0) (wants : Bool) → TurnMade none full c d h.node new → (wants ≡ false → IsDone new) → (wants ≡ false → d.wire.fetched ≡ None) → Kept b (turned wants)
+    turn_made none full wants x ready free =
         kept_on b h k (e ∷ behind) new (slice_set h.ends at d) h.scripts wants x.made.went (made_in b.tries h.manager h.node.history.entries e behind (turn_in b.tries h.node.history.entries h.manager c.cable c.sends e x.made.actor x.made.call) x.made.turns)
-        (each_set (IsEndAt b h.manager first (k.since ++ e ∷ behind)) h.ends at d (end_at_turned b h.manager first k.since behind e full c d x.same x.made.actor takes offers silent (k.ends at c is))
+        (each_set (IsEndAt (cables_begun b) h.manager first (k.since ++ e ∷ behind)) h.ends at d (end_at_turned b h.manager first k.since behind e full c d x.same x.made.actor takes offers silent (k.ends at c is))
         (λ j u apart there. end_at_quiet b h.manager first k.since (e ∷ behind) u
         (quiet_behind (acts_as u.cable u.sends) e behind (inl (ap (acts_as u.cable u.sends) x.made.actor ∙ acts_not u.cable c.cable u.sends c.sends (λ p q. apart (k.ends_apart j at u c there is p q)))) silent) (k.ends j u there)))
-        (apart_still x.same) (named_still x.same) (scripts_on e behind c.cable c.sends x.made.actor x.made.turns) k.scripts_apart refl ready
+        (apart_still x.same) (named_still x.same) (scripts_on e behind c.cable c.sends x.made.actor x.made.turns) k.scripts_apart refl ready (free_on wants free)
       where
         e : Entry
         e = x.made.entry
@@ -254,14 +258,14 @@ module _ (b : Begun) (h : Held) (new : NodeState) (k : Kept b h) (kept : IsKept 
         offers : EndOffers full c d e
         offers = offers_so c d full e e.effect.pushed (λ g is2. pushed_low (end_actor c.cable c.sends) h.node e g (an_end c.cable c.sends) may told x.made.actor x.made.call is2) refl x.offered
 
-    turn_not : (wants : Bool) → TurnNot c d h.node new → (wants ≡ false → IsDone new) → Kept b (turned wants)
-    turn_not wants x ready =
+    turn_not : (wants : Bool) → TurnNot c d h.node new → (wants ≡ false → IsDone new) → (wants ≡ false → d.wire.fetched ≡ None) → Kept b (turned wants)
+    turn_not wants x ready free =
         kept_on b h k [] new (slice_set h.ends at d) h.scripts wants (stayed_went h.node new x.stayed) tt
-        (each_set (IsEndAt b h.manager first (k.since ++ [])) h.ends at d (end_at_still b h.manager first k.since c d x.same x.read x.offers.same x.offers.written (k.ends at c is)) (λ j u apart there. ends_still j u there)) (apart_still x.same) (named_still x.same) scripts_still
-        k.scripts_apart refl ready
+        (each_set (IsEndAt (cables_begun b) h.manager first (k.since ++ [])) h.ends at d (end_at_still b h.manager first k.since c d x.same x.read x.offers.same x.offers.written (k.ends at c is)) (λ j u apart there. ends_still j u there)) (apart_still x.same) (named_still x.same) scripts_still
+        k.scripts_apart refl ready (free_on wants free)
 
-    pub turn_kept : (none full : Type 0) (r : Result Turn NoMemory) → IsServed h.node → TurnTried none full c h.node r d new → Kept b (turned (is_err r))
-    turn_kept none full (Ok turns.Changed) served (x, done) = turn_made none full false x (λ q. done)
-    turn_kept none full (Ok turns.Still) served x = turn_not false x (λ q. inl (served_stays h.node new x.stayed served))
-    turn_kept none full (Err e) served (inl x) = turn_not true x (λ q. absurd cc)
-    turn_kept none full (Err e) served (inr x) = turn_made none full true x (λ q. absurd cc)
+    pub turn_kept : (none full : Type 0) (r : Result Turn NoMemory) → IsServed h.node → TurnTried none full c h.node r d new → OnOk r (d.wire.fetched ≡ None) → Kept b (turned (is_err r))
+    turn_kept none full (Ok turns.Changed) served (x, done) free = turn_made none full false x (λ q. done) (λ q. free)
+    turn_kept none full (Ok turns.Still) served x free = turn_not false x (λ q. inl (served_stays h.node new x.stayed served)) (λ q. free)
+    turn_kept none full (Err e) served (inl x) free = turn_not true x (λ q. absurd cc) (λ q. absurd cc)
+    turn_kept none full (Err e) served (inr x) free = turn_made none full true x (λ q. absurd cc) (λ q. absurd cc)

@@ -14,8 +14,9 @@ use Rattle.mq_turns.specs.declared.telling.Turn.TheVariants as turns
 use Rattle.mq_turns.specs.Wired.{Offered, Popped}
 use Rattle.mq_wires.specs.Wires.{OffersNone}
 use Rattle.mq_ruled.specs.Ends.{PipeTook, PipeWrote}
-use Rattle.mq_shared.specs.Took.{EndState}
-use Rattle.mq_shared.specs.Held.{ScriptState, end_actor}
+use Rattle.mq_split.specs.Took.{EndState}
+use Rattle.mq_split.specs.Ends.{end_actor}
+use Rattle.mq_shared.specs.Held.{ScriptState}
 use Rattle.mq_shared.specs.declared.trying.Tried.{Tried}
 use Rattle.mq_shared.specs.declared.trying.Tried.TheVariants as tries
 
@@ -43,9 +44,6 @@ pub record SameScript (s t : ScriptState) : Type 0 where
   pub script : t.script ≡ s.script
   pub part : t.part ≡ s.part
   pub moment : t.moment ≡ s.moment
-
-abbrev pub until_tried : ScriptState → ScriptLine → ScriptState
-until_tried s l = record s { course = record s.course { until = deadline s.moment (wait_of l) } }
 
 -- the line of a script was done
 pub record LineMade (s t : ScriptState) (old new : NodeState) : Type 0 where

@@ -1,10 +1,5 @@
-pub mod Facing
-pub mod Took
 pub mod Held
 pub mod Events
-pub mod Opening
-pub mod Parting
-pub mod Joining
 pub mod Phasing
 pub mod Sharing
 pub mod Taking

@@ -14,7 +14,8 @@ use Rattle.mq_acts.specs.Restarts.{StaysOwn}
 use Rattle.mq_nodes.specs.declared.nodes.Stop.{Stop}
 use Rattle.mq_nodes.specs.declared.nodes.Stop.TheVariants as stops
 use Rattle.mq_ways.specs.Ways.{CableState}
-use Rattle.mq_shared.specs.Facing.{AreJoined}
+use Rattle.mq_split.specs.Facing.{AreJoined}
+use Rattle.mq_split.specs.Opening.{EachCable, IsShort}
 use Rattle.mq_shared.specs.Held.{entries_or}
 
 -- what the manager at a place did
@@ -98,3 +99,9 @@ pub record PhaseRan (s : Scenario) (ks : List ℕ) (old : List NodeState) (r : R
 -- no restart of it was from a log that was changed from outside
 abbrev pub PhaseOwn : List NodeState → List NodeState → Type 0
 PhaseOwn old ns = (m : ℕ) (n new : NodeState) → slice_get old m ≡ Some n → slice_get ns m ≡ Some new → StaysOwn n.history.entries new.history.entries
+
+-- At most 64 items lie on each direction of a cable then, where memory was not wanting.
+abbrev pub ShortBehind : Result (Unit {0}) Stop → List CableState → Type 0
+ShortBehind (Ok x) ws = EachCable IsShort ws
+ShortBehind (Err stops.NoMemory) ws = Unit {0}
+ShortBehind (Err (stops.Spent m)) ws = EachCable IsShort ws

@@ -8,7 +8,7 @@ use Rattle.mq_spec_node.specs.Words.{fresh}
 use Rattle.mq_progress.specs.Course.{Course}
 use Rattle.mq_events.specs.States.{NodeState}
 use Rattle.mq_shared.specs.Held.{Begun, ScriptState}
-use Rattle.mq_shared.specs.Parting.{ends_named}
+use Rattle.mq_split.specs.Parting.{ends_named}
 use Rattle.mq_shared.specs.Phasing.{tries_in}
 
 -- whether a script is one of these

@@ -7,9 +7,10 @@ use Rattle.mq_progress.specs.Course.{Course}
 use Rattle.mq_events.specs.States.{NodeState, IsKept}
 use Rattle.mq_acts.specs.Restarts.{StaysOwn}
 use Rattle.mq_acts.specs.Serving.{IsDone}
-use Rattle.mq_shared.specs.Took.{EndState}
-use Rattle.mq_shared.specs.Held.{Begun, EndsApart, Kept, ScriptState, entries_begun}
-use Rattle.mq_shared.specs.Parting.{AreEndsAt, EndRowState, ends_named, none_since}
+use Rattle.mq_split.specs.Took.{EndState}
+use Rattle.mq_split.specs.Ends.{AreFree, EndsApart}
+use Rattle.mq_shared.specs.Held.{Begun, Kept, ScriptState, cables_begun, entries_begun}
+use Rattle.mq_split.specs.Parting.{AreEndsAt, EndRowState, ends_named, none_since}
 use Rattle.mq_shared.specs.Phasing.{AreReady, AreTexts, IsCourse, entries_in}
 use Rattle.mq_shared.specs.Sharing.{among, begun_with}
 
@@ -45,7 +46,7 @@ OthersStay a old new = (k : ℕ) → among a.scripts k ≡ false → slice_get n
 
 -- the rows that wait for their managers
 abbrev pub EndsWait : Begun → Asked → List EndRowState → Type 0
-EndsWait b a rows = (m : ℕ) (r : EndRowState) → slice_get rows m ≡ Some r → AreEndsAt b none_since (ends_named a.scenario.cables) m r.ends × EndsApart r.ends
+EndsWait b a rows = (m : ℕ) (r : EndRowState) → slice_get rows m ≡ Some r → AreEndsAt (cables_begun b) none_since (ends_named a.scenario.cables) m r.ends × EndsApart r.ends × AreFree r.ends
 
 abbrev pub RowsWait : ℕ → List ScriptRowState → Type 0
 RowsWait n rows = (m : ℕ) (r : ScriptRowState) → slice_get rows m ≡ Some r → (r.scripts ≡ []) × (n ≤ r.room)

@@ -2,7 +2,8 @@
 ghost use Rattle.std.specs.Prelude.{◌≡◌, ◌≤◌, ◌<◌, ◌+◌, ◌^◌, ◌++◌, ◌∷◌, ℕ, IfOk, [], Some, false, length, map, slice_get, slice_set};
 ghost use Rattle.mq_spec_node.specs.Terms as terms;
 ghost use Rattle.mq_progress.specs.Course as progress;
-ghost use Rattle.mq_shared.specs.Held.{Begun, EachIs, IsScriptIn, ScriptState, entries_begun, script_name};
+ghost use Rattle.mq_split.specs.Ends.{EachIs};
+ghost use Rattle.mq_shared.specs.Held.{Begun, IsScriptIn, ScriptState, entries_begun, script_name};
 ghost use Rattle.mq_shared.specs.Phasing.{moment_or};
 ghost use Rattle.mq_shared.specs.Sharing.{among, is_here, last_if, named, out_if, put_all, rested, unbegun};
 ghost use Rattle.mq_shared.specs.Taking.{Begins, CoursesAt, RowsWait};

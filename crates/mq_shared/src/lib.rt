@@ -4,10 +4,7 @@
 mod courses;
 mod held;
 mod jobs;
-mod joining;
 mod locked;
-mod opening;
-mod parting;
 mod phasing;
 mod sharing;
 mod trying;

@@ -4,11 +4,12 @@ ghost use Rattle.std.specs.Bool.{OnTrue};
 ghost use Rattle.mq_events.specs.Events.{MayAct};
 ghost use Rattle.mq_shared.specs.Held.{Kept, KeptOwn};
 
-use crate::held::{HeldEnd, HeldScript};
+use crate::held::HeldScript;
 use crate::trying::{Tried, try_line, try_timeout, try_turn};
 use mq_base::{Items, NoMemory};
 use mq_disk::Disk;
 use mq_events::Node;
+use mq_split::HeldEnd;
 use mq_turns::Turn;
 use std::marker::{Brand, Model, PhantomData};
 use std::sync::Wait;

@@ -1,20 +1,18 @@
 //! A phase: each node goes under a lock with the ends of its cables and its scripts, workers run them in threads, and all comes back.
-ghost use Rattle.std.specs.Prelude.{◌≡◌, ◌≤◌, ◌++◌, ◌*◌, ◌<◌, ◌^◌, ℕ, [], false, IfOk, length, vec_capacity, vec_len};
-ghost use Rattle.mq_shared.specs.Facing.{AreJoined};
-ghost use Rattle.mq_shared.specs.Held.{EachIs, entries_begun};
-ghost use Rattle.mq_shared.specs.Opening.{AreOpen, EachCable, IsBare, wholes};
-ghost use Rattle.mq_shared.specs.Parting.{AreEnds, EndRowState, IsAmong, IsBegunOver, Passed, backs_of, ends_named, outs_of};
-ghost use Rattle.mq_shared.specs.Phasing.{MayPhase, PhaseEnds, PhaseOwn, PhaseRan};
+ghost use Rattle.std.specs.Prelude.{◌≡◌, ◌≤◌, ◌++◌, ◌*◌, ◌<◌, ◌^◌, ℕ, [], false, true, Err, IfOk, length, vec_capacity, vec_len};
+ghost use Rattle.mq_nodes.specs.declared.nodes.Stop.TheVariants as stops;
+ghost use Rattle.mq_split.specs.Facing.{AreJoined};
+ghost use Rattle.mq_split.specs.Ends.{EachIs};
+ghost use Rattle.mq_shared.specs.Held.{Begun, cables_begun, entries_begun};
+ghost use Rattle.mq_split.specs.Opening.{AreOpen, EachCable, IsBare, IsShort, wholes};
+ghost use Rattle.mq_split.specs.Parting.{AllFree, AreEnds, EndRowState, IsAmong, IsBegunOver, backs_of, ends_named, outs_of};
+ghost use Rattle.mq_shared.specs.Phasing.{MayPhase, PhaseEnds, PhaseOwn, PhaseRan, ShortBehind};
 ghost use Rattle.mq_shared.specs.Sharing.{begun_with};
 ghost use Rattle.mq_shared.specs.Taking.{AreDone, Asked, RowsWait, since_of};
 
 use crate::courses::{ScriptRow, room_for_scripts};
-use crate::held::HeldEnd;
 use crate::jobs::{Job, run_all};
-use crate::joining::join_cables;
 use crate::locked::{Locked, PhaseName};
-use crate::opening::{Passes, Pipes, are_short, close_cables, open_cables};
-use crate::parting::{EndRow, part_cables, room_for_ends};
 use crate::sharing::{lock_all, take_all};
 use mq_base::{Items, NoMemory};
 use mq_disk::Disk;
@@ -23,6 +21,10 @@ use mq_gate::Gate;
 use mq_history::{CableLine, Scenario};
 use mq_nodes::Stop;
 use mq_progress::Progress;
+use mq_split::{
+    EndRow, HeldEnd, Passes, Pipes, are_short, close_cables, join_cables, open_cables, part_cables,
+    room_for_ends,
+};
 use mq_ways::Cable;
 use std::alloc::Global;
 use std::marker::Brand;
@@ -84,7 +86,8 @@ fn room_for<'x, P: PhaseName, D: Disk, R: Wait>(
 fn phase_ends<D: Disk>(nodes: &Items<Node<D>>, wants: bool) -> Result<(), Stop>
     requires done { (wants ≡ false) → AreDone nodes.now }
     requires few { length nodes.now < 2 ^ 16 }
-    ensures { PhaseEnds result nodes.now }
+    ensures ends { PhaseEnds result nodes.now }
+    ensures lacks { (wants ≡ true) → result ≡ Err stops.NoMemory }
 {
     if wants {
         return Err(Stop::NoMemory);
@@ -106,14 +109,14 @@ fn join_back<'x, D: Disk, R: Wait>(
     mut rows: Items<Items<HeldEnd<'x, R>>>,
     cables: &mut Items<Cable>,
 )
-    ghost p: { Passed }
-    requires since { p.since ≡ since_of p.begun nodes.now }
-    requires begun { IsBegunOver p.begun pipes.now lines.now }
+    ghost b: { Begun }
+    requires begun { IsBegunOver (cables_begun b) pipes.now lines.now }
     requires all { (length pipes.now ≡ length lines.now) × (length cables.old ≡ length lines.now) }
     requires managers { EachIs (IsAmong (length rows)) lines.now }
-    requires ends { AreEnds p.begun p.since (ends_named lines.now) rows }
+    requires ends { AreEnds (cables_begun b) (since_of b nodes.now) (ends_named lines.now) rows }
     requires bare { EachCable IsBare cables.old }
-    ensures joined { AreJoined lines.now (λ (m : ℕ). entries_begun p.begun m ++ since_of p.begun nodes.now m) cables.new }
+    ensures joined { AreJoined lines.now (λ (m : ℕ). entries_begun b m ++ since_of b nodes.now m) cables.new }
+    ensures short { AllFree rows.entry → EachCable IsShort cables.new }
     ensures all { length cables.new ≡ length cables.old }
 {
     let _ = nodes;
@@ -148,6 +151,7 @@ fn run_in<'x, P: PhaseName + Send + Sync, D: Disk + Send, R: Threads + Wait + Sy
     requires back { (room.back.items ≡ []) × (length nodes.old ≤ vec_capacity room.back) }
     ensures ran { PhaseRan scenario.now scripts.now nodes.old result nodes.new courses.new cables.new }
     ensures own { D.tells → PhaseOwn nodes.old nodes.new }
+    ensures short { ShortBehind result cables.new }
 {
     let PhaseRoom {
         mut ends,
@@ -190,6 +194,7 @@ fn run<'x, P: PhaseName + Send + Sync, D: Disk + Send, R: Threads + Wait + Sync,
     requires bare { EachCable IsBare cables.old }
     ensures ran { PhaseRan scenario.now scripts.now nodes.old result nodes.new courses.new cables.new }
     ensures own { D.tells → PhaseOwn nodes.old nodes.new }
+    ensures short { ShortBehind result cables.new }
 {
     match room_for::<P, D, R>(alloc, nodes.len(), cables.len(), courses.len()) {
         Err(NoMemory) => {
@@ -204,7 +209,7 @@ fn run<'x, P: PhaseName + Send + Sync, D: Disk + Send, R: Threads + Wait + Sync,
 
 /// Runs scripts, places in the scenario, and the ends of all channels in threads. Nodes, courses of scripts and cables are the
 /// scenario's, in its order. Behind it no get waits, whether its script is at its end or not. Where a direction of a cable holds
-/// more than 64 items it does nothing.
+/// more than 64 items it does nothing; where none did, and memory was not wanting, none does behind it.
 ///
 /// # Errors
 ///
@@ -222,6 +227,7 @@ pub fn phase<D: Disk + Send, R: Threads + Wait + Sync, G: Gate + Sync>(
     requires { MayPhase scenario.now scripts.now nodes.old courses.old cables.old }
     ensures ran { PhaseRan scenario.now scripts.now nodes.old result nodes.new courses.new cables.new }
     ensures own { D.tells → PhaseOwn nodes.old nodes.new }
+    ensures short { EachCable IsShort cables.old → ShortBehind result cables.new }
 {
     if !are_short(cables) {
         return Ok(());

@@ -2,22 +2,23 @@
 ghost use Rattle.std.specs.Prelude.{◌≡◌, ◌≤◌, ◌<◌, ◌+◌, ◌∷◌, ◌++◌, ℕ, [], Some, false, length, slice_get, vec_capacity, vec_len};
 ghost use Rattle.mq_spec_node.specs.Terms as terms;
 ghost use Rattle.mq_events.specs.States.{IsKept};
-ghost use Rattle.mq_shared.specs.Held.{EndsApart, Kept, KeptOwn};
-ghost use Rattle.mq_shared.specs.Parting.{AreEndsAt, ends_named, none_since};
+ghost use Rattle.mq_split.specs.Ends.{AreFree, EndsApart};
+ghost use Rattle.mq_shared.specs.Held.{Kept, KeptOwn, cables_begun};
+ghost use Rattle.mq_split.specs.Parting.{AllFree, AreEndsAt, ends_named, none_since};
 ghost use Rattle.mq_shared.specs.Sharing.{is_here};
 ghost use Rattle.mq_shared.specs.Taking.{AreBack, AreDone, AreOut, Asked, Begins, CoursesAt, CoursesBelow, EndsWait, NodesWait, OthersStay, OwnOut, RowsWait};
 
 use crate::courses::{ScriptRow, hold_scripts, put_courses};
-use crate::held::{HeldEnd, HeldScript};
+use crate::held::HeldScript;
 use crate::jobs::{Job, Work};
 use crate::locked::{Locked, PhaseName, Unlocked};
-use crate::parting::EndRow;
 use mq_base::Items;
 use mq_disk::Disk;
 use mq_events::Node;
 use mq_gate::Point;
 use mq_history::{Actor, Call, Entry, Scenario};
 use mq_progress::Progress;
+use mq_split::{EndRow, HeldEnd};
 use std::alloc::Global;
 use std::sync::{Mutex, Wait};
 
@@ -98,7 +99,7 @@ fn lock_one<'x, P: PhaseName, D: Disk, R: Wait>(
 ) -> Locked<'x, P, D, R>
     requires begins { Begins (record { scenario = scenario.now; scripts = scripts.now }) P.begun }
     requires there { slice_get P.begun.nodes manager ≡ Some node }
-    requires ends { AreEndsAt P.begun none_since (ends_named scenario.now.cables) manager ends.ends × EndsApart ends.ends }
+    requires ends { AreEndsAt (cables_begun P.begun) none_since (ends_named scenario.now.cables) manager ends.ends × EndsApart ends.ends × AreFree ends.ends }
     requires row { (row.scripts ≡ []) × (length scenario.now.scripts ≤ row.room) }
     requires long { length courses.old ≡ length scenario.now.scripts }
     requires courses { CoursesAt (record { scenario = scenario.now; scripts = scripts.now }) P.begun manager courses.old }
@@ -200,6 +201,7 @@ pub fn take_all<'x, P: PhaseName, D: Disk, R: Wait>(
     ensures out { AreOut P.begun nodes.new.items ends.new.items }
     ensures own { D.tells → OwnOut P.begun nodes.new.items }
     ensures done { (result ≡ false) → AreDone nodes.new.items }
+    ensures free { (result ≡ false) → AllFree ends.new.items }
     ensures long { length courses.new ≡ length courses.old }
     ensures others { OthersStay a courses.old courses.new }
     ensures back { AreBack a nodes.new.items courses.new }

@@ -1,5 +1,5 @@
 //! A try of a script's line, a turn of an end and a timeout, at a node, with the trigger turns behind it.
-ghost use Rattle.std.specs.Prelude.{◌≤◌, ◌<◌, ◌^◌, ℕ, [], IfSome, length, slice_get};
+ghost use Rattle.std.specs.Prelude.{◌≡◌, ◌≤◌, ◌<◌, ◌^◌, ℕ, [], IfSome, None, OnOk, false, length, slice_get};
 ghost use Rattle.mq_events.specs.States.{IsServed};
 ghost use Rattle.mq_events.specs.Events.{MayAct};
 ghost use Rattle.mq_acts.specs.Advances.{IsTextLine};
@@ -7,18 +7,20 @@ ghost use Rattle.mq_acts.specs.Restarts.{StaysOwn};
 ghost use Rattle.mq_turns.specs.Unseen.{EndTurn, IsUnseen, turn_deed};
 ghost use Rattle.mq_ruled.specs.Ends.{PipeEmpty, PipeEnds, PipeFull, PipeTook, PipeWrote};
 ghost use Rattle.mq_shared.specs.Events.{LineTried, SameEnd, TimeTried, TurnTried};
-ghost use Rattle.mq_shared.specs.Held.{end_actor, script_with};
+ghost use Rattle.mq_split.specs.Ends.{end_actor};
+ghost use Rattle.mq_shared.specs.Held.{script_with};
 
-use crate::held::{HeldEnd, HeldScript};
+use crate::held::HeldScript;
 use mq_acts::{Advanced, advance, serve};
 use mq_base::NoMemory;
-use mq_cable::Offers;
+use mq_cable::{Offers, Wire};
 use mq_disk::Disk;
 use mq_events::Node;
 use mq_history::ScriptPart;
 use mq_lines::{deadline_of, wait_of};
 use mq_progress::Progress;
 use mq_ruled::Ruled;
+use mq_split::HeldEnd;
 use mq_takes::receiver_turn;
 use mq_turns::{Turn, sender_turn, timeout};
 use std::sync::Wait;
@@ -126,7 +128,7 @@ fn turn_at<D: Disk, R: Wait>(node: &mut Node<D>, end: &mut HeldEnd<'_, R>) -> Re
 /// # Errors
 ///
 /// No memory: nothing was done, or the turn was, and a trigger stays due.
-pub fn try_turn<D: Disk, R: Wait>(
+fn served_turn<D: Disk, R: Wait>(
     node: &mut Node<D>,
     end: &mut HeldEnd<'_, R>,
 ) -> Result<Turn, NoMemory>
@@ -143,6 +145,39 @@ pub fn try_turn<D: Disk, R: Wait>(
             Ok(()) => Ok(Turn::Changed),
         },
     }
+}
+
+/// Whether an end holds an item that it looked at and did not take.
+fn holds_item<R: Wait>(end: &HeldEnd<'_, R>) -> bool
+    ensures { (result ≡ false) → end.now.wire.fetched ≡ None }
+{
+    match end.wire.front() {
+        None => false,
+        Some(_) => true,
+    }
+}
+
+/// A turn of an end, with the trigger turns behind it. Still where it changes nothing. Behind one that found memory the end holds no item
+/// that it did not take: where it held one, which no turn does, that is want of memory too.
+///
+/// # Errors
+///
+/// No memory: nothing was done, or the turn was, and a trigger stays due.
+pub fn try_turn<D: Disk, R: Wait>(
+    node: &mut Node<D>,
+    end: &mut HeldEnd<'_, R>,
+) -> Result<Turn, NoMemory>
+    requires served { IsServed node.old }
+    requires may { MayAct node.old }
+    requires count { end.old.offers.number < 2 ^ 48 }
+    ensures tried { TurnTried (IsUnseen ((m : PipeEnds) × PipeEmpty end.old.wire m × PipeTook m [] end.new.wire) (turn_deed (end_actor end.old.cable end.old.sends) node.old)) (PipeFull end.old.wire end.new.wire) end.old node.old result end.new node.new }
+    ensures free { OnOk result (end.new.wire.fetched ≡ None) }
+{
+    let turn = served_turn(node, end);
+    if holds_item(end) {
+        return Err(NoMemory);
+    }
+    turn
 }
 
 /// A timeout of the sender's end of a cable, with the trigger turns behind it. Still where it waits for no answer.

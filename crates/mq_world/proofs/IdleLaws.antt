@@ -11,7 +11,7 @@ use Rattle.mq_events.specs.States.{NodeState}
 use Rattle.mq_ways.specs.Ways.{CableState}
 use Rattle.mq_idle.specs.Sights.{IsSightOf}
 use Rattle.mq_idle.proofs.StillLaws.{still_is_idle}
-use Rattle.mq_shared.specs.Facing.{IsJoined}
+use Rattle.mq_split.specs.Facing.{IsJoined}
 use Rattle.mq_world.specs.Worlds.{IsNetwork, NetState, course_in, histories_in}
 use Rattle.mq_world.proofs.ListLaws.{some_is, there}
 use Rattle.mq_world.proofs.SeenLaws.{node_there}

@@ -34,9 +34,9 @@ use Rattle.mq_events.specs.Events.{MayAct}
 use Rattle.mq_turns.specs.Unseen.{Empty, IsUnseen, Pushes, Rests, turn_deed}
 use Rattle.mq_turns.specs.Wired.{Idles, IsStill, Offered, Popped, PopsItem, Refuses}
 use Rattle.mq_world.specs.Ends.{IsBare, IsFilled, Passes, Reads, Sides, StaysStill, Writes}
-use Rattle.mq_shared.specs.Facing.{Facing}
+use Rattle.mq_split.specs.Facing.{Facing}
 use Rattle.mq_shared.proofs.DeedLaws.{Alike, IsEnd, PushesOr}
-use Rattle.mq_shared.proofs.FacingLaws.{facing_offered, facing_popped, facing_unread, facing_unwritten}
+use Rattle.mq_split.proofs.FacingLaws.{facing_offered, facing_popped, facing_unread, facing_unwritten}
 use Rattle.mq_world.proofs.RoomLaws.{direction, extras_found, not_refused_there, refused_there}
 
 some_is : {A : Type 0} (a b : A) → Some a ≡ Some b → a ≡ b

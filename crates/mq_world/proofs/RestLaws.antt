@@ -13,7 +13,7 @@ use Rattle.mq_events.specs.States.{NodeState}
 use Rattle.mq_nodes.specs.Carried.{AllCarried}
 use Rattle.mq_world_begin.specs.Rested.{IsRested, IsRestedAt}
 use Rattle.mq_world.specs.Resting.{manager_in, own_in, rest_of}
-use Rattle.mq_shared.specs.Facing.{IsJoined}
+use Rattle.mq_split.specs.Facing.{IsJoined}
 use Rattle.mq_world.specs.Worlds.{IsNetwork, IsNodeAt, NetState, course_in, histories_in, history_in}
 use Rattle.mq_world.proofs.ListLaws.{get_map, long_map, some_is, there}
 

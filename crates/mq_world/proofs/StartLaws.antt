@@ -39,7 +39,7 @@ use Rattle.mq_progress.proofs.CourseLaws.{stands_first}
 use Rattle.mq_steps.proofs.PartLaws.{at_it}
 use Rattle.mq_ways.specs.Ways.{AreNew, CableState, IsNew}
 use Rattle.mq_ways.proofs.QuietLaws.{new_at, new_long}
-use Rattle.mq_shared.specs.Facing.{IsJoined}
+use Rattle.mq_split.specs.Facing.{IsJoined}
 use Rattle.mq_world.specs.Starting.{Starts, StartsAt, around, begun_script, begun_state, own_begun}
 use Rattle.mq_world.specs.Worlds.{IsNetwork, IsScriptAt, history_in, until_of}
 use Rattle.mq_world.proofs.ListLaws.{get_map, some_is}

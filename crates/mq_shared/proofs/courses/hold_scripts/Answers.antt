@@ -1,6 +1,7 @@
 use Rattle.std.proofs.Common.{◌<◌, length, arith, subst, sym, refl, rules}
 use Rattle.std.specs.Prelude.{List}
-use Rattle.mq_shared.specs.Held.{EachIs, IsScriptIn, ScriptState, entries_begun}
+use Rattle.mq_split.specs.Ends.{EachIs}
+use Rattle.mq_shared.specs.Held.{IsScriptIn, ScriptState, entries_begun}
 use Rattle.mq_shared.specs.Sharing.{is_here}
 use Rattle.mq_shared.proofs.ShareLists.{there}
 use Rattle.mq_shared.proofs.ShareLaws.{each_last, named_more, out_ahead, out_long, out_others, script_in}

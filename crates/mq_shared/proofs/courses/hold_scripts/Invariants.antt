@@ -1,7 +1,8 @@
 use Rattle.std.proofs.Common.{◌≡◌, ◌≤◌, ◌+◌, ◌++◌, ℕ, false, length, map, drop}
 use Rattle.std.specs.Prelude.{Some, slice_get}
 use Rattle.mq_history.specs.declared.scenario.ScriptPart.{ScriptPart}
-use Rattle.mq_shared.specs.Held.{EachIs, IsScriptIn, entries_begun, script_name}
+use Rattle.mq_split.specs.Ends.{EachIs}
+use Rattle.mq_shared.specs.Held.{IsScriptIn, entries_begun, script_name}
 use Rattle.mq_shared.specs.Sharing.{is_here, named, named_from}
 use Rattle.mq_shared.proofs.courses.hold_scripts.Given as goal
 

@@ -1,7 +1,7 @@
 use Rattle.std.proofs.Common.{length}
 use denote.Param.Send.{sendable}
 use Rattle.std.proofs.Crossing.{crosses}
-use Rattle.mq_shared.proofs.PlaceLaws.{some_there}
+use Rattle.mq_shared.proofs.ShareLists.{some_there}
 use Rattle.mq_shared.proofs.SendLaws.{locked_send}
 use Rattle.mq_shared.proofs.jobs.run_all.Goals as goal
 

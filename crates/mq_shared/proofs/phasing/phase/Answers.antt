@@ -2,8 +2,8 @@ use Rattle.std.proofs.Common.{List, subst, sym}
 use Rattle.std.specs.Prelude.{Err, Ok}
 use Rattle.mq_nodes.specs.declared.nodes.Stop.TheVariants as stops
 use Rattle.mq_ways.specs.Ways.{CableState}
-use Rattle.mq_shared.specs.declared.opening.Pipes.{Pipes}
-use Rattle.mq_shared.specs.Opening.{AreOpen}
+use Rattle.mq_split.specs.declared.opening.Pipes.{Pipes}
+use Rattle.mq_split.specs.Opening.{AreOpen}
 use Rattle.mq_shared.specs.Phasing.{PhaseRan}
 use Rattle.mq_shared.proofs.OverLaws.{low_cables}
 use Rattle.mq_shared.proofs.RanLaws.{nothing_ran}

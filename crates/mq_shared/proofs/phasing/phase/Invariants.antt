@@ -1,4 +1,4 @@
-use Rattle.mq_shared.specs.Parting.{backs_of, outs_of}
+use Rattle.mq_split.specs.Parting.{backs_of, outs_of}
 use Rattle.mq_shared.specs.Sharing.{begun_with}
 use Rattle.mq_shared.proofs.phasing.phase.Given as goal
 

@@ -14,5 +14,5 @@ loop-at-preserved g c =
           (sym (ap (λ (ns : List NodeState). slice_get ns c.loop-at.at) c.as_slice.ensures) ∙ slice_get_read _ _ _ _ refl lt c.index-as_slice-at.is) (sym c.is_spent.ensures.spent ∙ c.if-is_spent.false);
     }
 
-pub returns : goal.returns
-returns g c = all_ready c.args.nodes.now c.loop-at.at (omega (arith, c.loop-at-test.false, c.len-at-end.ensures)) c.loop-at.invariant.may (c.requires.done c.if-wants.false)
+pub returns-clause-ends : goal.returns-clause-ends
+returns-clause-ends g c = all_ready c.args.nodes.now c.loop-at.at (omega (arith, c.loop-at-test.false, c.len-at-end.ensures)) c.loop-at.invariant.may (c.requires.done c.if-wants.false)

@@ -2,7 +2,7 @@ use Rattle.std.proofs.Common.{List, arith, refl, rules, subst, sym, ◌∙◌}
 use Rattle.std.specs.Prelude.{Err}
 use Rattle.mq_nodes.specs.declared.nodes.Stop.TheVariants as stops
 use Rattle.mq_ways.specs.Ways.{CableState}
-use Rattle.mq_shared.specs.Opening.{wholes}
+use Rattle.mq_split.specs.Opening.{wholes}
 use Rattle.mq_shared.specs.Phasing.{PhaseRan}
 use Rattle.mq_shared.proofs.RanLaws.{nothing_ran}
 use Rattle.mq_shared.proofs.phasing.run.Goals as goal

@@ -1,10 +1,12 @@
-use Rattle.std.proofs.Common.{◌≡◌, List, length, ap, arith, refl, rules, subst, sym, ◌∙◌}
+use Rattle.std.proofs.Common.{◌≡◌, List, length, ap, arith, rules, subst, sym, ◌∙◌}
 use Rattle.std.specs.Prelude.{slice_get}
 use Rattle.mq_events.specs.States.{NodeState}
-use Rattle.mq_shared.specs.Opening.{wholes}
-use Rattle.mq_shared.specs.Took.{EndState}
+use Rattle.mq_split.specs.Opening.{wholes}
+use Rattle.mq_split.specs.Parting.{AllFree}
+use Rattle.mq_split.specs.Took.{EndState}
 use Rattle.mq_shared.specs.Taking.{AreBack, AreOut, Asked, Begins, OwnOut}
 use Rattle.mq_shared.proofs.OverLaws.{among_over, begins_over, begun_over, courses_over, ends_over, few_cables, few_managers, joined_over, long_whole, nodes_over, own_over, ran_over, wait_over}
+use Rattle.mq_shared.proofs.RanLaws.{short_behind}
 use Rattle.mq_shared.proofs.phasing.run_in.Goals as goal
 
 pub part_cables-requires : goal.part_cables-requires
@@ -89,7 +91,7 @@ lock_all-locks-requires-clause-ends g c =
     let long = ap length value in
     let room = c.requires.1.1.1.1.1.1.1.1.1.1.1.1.1.1.1.0 in
     let parted = c.part_cables.ensures.all in
-    (wait_over s ks ns cs ws ps b may is ls c.part_cables.new.ends lines c.part_cables.ensures.ends c.part_cables.ensures.apart, omega (arith, parted.0, room.0, long))
+    (wait_over s ks ns cs ws ps b may is ls c.part_cables.new.ends lines c.part_cables.ensures.ends c.part_cables.ensures.apart c.part_cables.ensures.free, omega (arith, parted.0, room.0, long))
 
 pub lock_all-locks-requires-clause-rows : goal.lock_all-locks-requires-clause-rows
 lock_all-locks-requires-clause-rows g c =
@@ -187,13 +189,10 @@ join_back-requires g c κs within =
       (
         search rules,
         (
-          refl,
+          begun_over s ks ns cs ws ps b may is ls lines,
           (
-            begun_over s ks ns cs ws ps b may is ls lines,
-            (
-              (omega (arith, all.0, long_lines, may.cables, long), omega (arith, parted.1, long_lines, may.cables, long)),
-              (among_over s ks ns cs ws ps b may is ls (length c.from_vec-2.result) lines count_rows, (ends_over s ks ns cs ws ps b may is ls c.from_vec.result c.from_vec-2.result lines count count_rows out, c.part_cables.ensures.bare)),
-            ),
+            (omega (arith, all.0, long_lines, may.cables, long), omega (arith, parted.1, long_lines, may.cables, long)),
+            (among_over s ks ns cs ws ps b may is ls (length c.from_vec-2.result) lines count_rows, (ends_over s ks ns cs ws ps b may is ls c.from_vec.result c.from_vec-2.result lines count count_rows out, c.part_cables.ensures.bare)),
           ),
         ),
       ),
@@ -256,7 +255,7 @@ returns-clause-ran g c =
     ran_over s ks ns cs ws ps b may is g.q ls c.from_vec.result c.from_vec-2.result c.lock_all-locks.new.courses c.take_all-wants.new.courses c.join_back.new.cables c.phase_ends.result asked lines count count_rows out
     (c.take_all-wants.ensures.long ∙ c.lock_all-locks.ensures.long) c.lock_all-locks.ensures.others c.take_all-wants.ensures.others
     (subst (λ (l : List NodeState). AreBack g.q l c.take_all-wants.new.courses) (sym now) c.take_all-wants.ensures.back)
-    (c.join_back.ensures.all ∙ c.part_cables.ensures.all.1 ∙ sym long) c.join_back.ensures.joined c.phase_ends.ensures
+    (c.join_back.ensures.all ∙ c.part_cables.ensures.all.1 ∙ sym long) c.join_back.ensures.joined c.phase_ends.ensures.ends
 
 pub returns-clause-own : goal.returns-clause-own
 returns-clause-own g c =
@@ -270,3 +269,8 @@ returns-clause-own g c =
     let may = c.requires.1.1.1.1.1.1.1.1.1.1.1.0 in
     let is = c.requires.1.1.1.1.1.1.1.1.1.1.0 in
     λ tells. own_over s ks ns cs ws ps b may is c.from_vec.result (subst (λ (l : List NodeState). OwnOut b l) (sym c.from_vec.ensures) (c.take_all-wants.ensures.own tells))
+
+pub returns-clause-short : goal.returns-clause-short
+returns-clause-short g c =
+    short_behind c.take_all-wants.result c.phase_ends.result c.join_back.new.cables c.phase_ends.ensures.lacks
+    (λ none. c.join_back.ensures.short (subst (λ (l : List (List EndState)). AllFree l) (sym c.from_vec-2.ensures) (c.take_all-wants.ensures.free none)))

@@ -1,8 +1,9 @@
 use Rattle.std.proofs.Common.{◌≡◌, ℕ, [], length, ap, arith, subst, ◌∙◌}
 use Rattle.std.specs.Prelude.{◌≤◌, Some, slice_get}
 use Rattle.mq_events.specs.States.{NodeState}
-use Rattle.mq_shared.specs.Held.{EndsApart}
-use Rattle.mq_shared.specs.Parting.{AreEndsAt, EndRowState, ends_named, none_since}
+use Rattle.mq_split.specs.Ends.{AreFree, EndsApart}
+use Rattle.mq_shared.specs.Held.{cables_begun}
+use Rattle.mq_split.specs.Parting.{AreEndsAt, EndRowState, ends_named, none_since}
 use Rattle.mq_shared.specs.Taking.{CoursesBelow, ScriptRowState}
 use Rattle.mq_shared.proofs.TakeLaws.{below_on, each_end, each_front, longer, others_on}
 use Rattle.mq_shared.proofs.sharing.lock_all.Goals as goal
@@ -19,8 +20,8 @@ lock_one-locked-requires-clause-ends g c =
     let more = longer c.pop.new.self c.loop-node.nodes c.in-Some.node c.in-Some.ensures.last in
     let more_ends = longer rest c.loop-node.ends c.last_of-ends.result c.last_of-ends.ensures in
     let at : length rest ≡ c.len-manager.result = omega (arith, more, more_ends, c.loop-node.invariant.ends_long, c.len-manager.ensures) in
-    subst (λ (m : ℕ). AreEndsAt g.P.PhaseName.begun none_since (ends_named lines) m c.last_of-ends.result.ends × EndsApart c.last_of-ends.result.ends) at
-    (each_end (λ (m : ℕ) (r : EndRowState). AreEndsAt g.P.PhaseName.begun none_since (ends_named lines) m r.ends × EndsApart r.ends) rest c.loop-node.ends c.last_of-ends.result c.last_of-ends.ensures c.loop-node.invariant.ends)
+    subst (λ (m : ℕ). AreEndsAt (cables_begun g.P.PhaseName.begun) none_since (ends_named lines) m c.last_of-ends.result.ends × EndsApart c.last_of-ends.result.ends × AreFree c.last_of-ends.result.ends) at
+    (each_end (λ (m : ℕ) (r : EndRowState). AreEndsAt (cables_begun g.P.PhaseName.begun) none_since (ends_named lines) m r.ends × EndsApart r.ends × AreFree r.ends) rest c.loop-node.ends c.last_of-ends.result c.last_of-ends.ensures c.loop-node.invariant.ends)
 
 pub lock_one-locked-requires-clause-row : goal.lock_one-locked-requires-clause-row
 lock_one-locked-requires-clause-row g c =
@@ -45,7 +46,7 @@ loop-node-preserved g c =
     record {
       nodes = each_front (λ (m : ℕ) (n : NodeState). slice_get b.nodes m ≡ Some n) c.pop.new.self c.loop-node.nodes c.in-Some.node c.in-Some.ensures.last h.nodes;
       few = omega (arith, more, h.few);
-      ends = each_front (λ (m : ℕ) (r : EndRowState). AreEndsAt b none_since (ends_named s.cables) m r.ends × EndsApart r.ends) c.last_of-ends.new.list c.loop-node.ends c.last_of-ends.result c.last_of-ends.ensures h.ends;
+      ends = each_front (λ (m : ℕ) (r : EndRowState). AreEndsAt (cables_begun b) none_since (ends_named s.cables) m r.ends × EndsApart r.ends × AreFree r.ends) c.last_of-ends.new.list c.loop-node.ends c.last_of-ends.result c.last_of-ends.ensures h.ends;
       ends_long = omega (arith, more, more_ends, h.ends_long);
       rows = each_front (λ (m : ℕ) (r : ScriptRowState). (r.scripts ≡ []) × (length s.scripts ≤ r.room)) c.last_of-row.new.list c.loop-node.rows c.last_of-row.result c.last_of-row.ensures h.rows;
       rows_long = omega (arith, more, more_rows, h.rows_long);

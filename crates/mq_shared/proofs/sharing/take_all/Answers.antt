@@ -3,7 +3,7 @@ use Rattle.mq_acts.specs.Restarts.{StaysOwn}
 use Rattle.mq_shared.specs.Held.{entries_begun}
 use Rattle.mq_shared.proofs.ShareLists.{none_at}
 use Rattle.mq_shared.proofs.ShareLaws.{put_long}
-use Rattle.mq_shared.proofs.TakeLaws.{done_more, longer, own_more, scripts_there, taken_on}
+use Rattle.mq_shared.proofs.TakeLaws.{done_more, free_more, longer, own_more, scripts_there, taken_on}
 use Rattle.mq_shared.proofs.sharing.take_all.Goals as goal
 
 pub loop-lock-init : goal.loop-lock-init
@@ -20,6 +20,7 @@ loop-lock-init g c =
       out = λ m n es at row. absurd (none_at c.args.nodes.now.items m n none.0 at);
       own = λ tells m n at. absurd (none_at c.args.nodes.now.items m n none.0 at);
       done = λ lacks m n at. absurd (none_at c.args.nodes.now.items m n none.0 at);
+      free = λ lacks m es at. absurd (none_at c.args.ends.now.items m es none.1 at);
       long = refl;
       others = λ k other. refl;
       back = λ k p course part asked lt at. absurd (omega (arith, lt, empty));
@@ -53,6 +54,7 @@ loop-lock-preserved g c =
       out = on.0;
       own = λ tells. own_more b c.loop-lock.nodes.items c.push_reserved.new.self.items r.node more (subst (λ (m : ℕ). StaysOwn (entries_begun b m) r.node.history.entries) place (c.take_one-node.ensures.own tells)) (h.own tells);
       done = λ lacks. let two = c.either-wants.ensures lacks in done_more c.loop-lock.nodes.items c.push_reserved.new.self.items r.node more (c.take_one-node.ensures.kept.ready two.1) (h.done two.0);
+      free = λ lacks. let two = c.either-wants.ensures lacks in free_more c.loop-lock.ends.items c.push_reserved-in-Some.new.self.items r.ends more_ends (c.take_one-node.ensures.kept.free two.1) (h.free two.0);
       long = ap length put ∙ put_long r.scripts c.loop-lock.courses ∙ h.long;
       others = on.1;
       back = on.2;

@@ -1,5 +1,6 @@
 use Rattle.std.proofs.Common.{◌≡◌, ◌≤◌, ◌+◌, false, length}
 use Rattle.std.specs.Prelude.{vec_capacity, vec_len}
+use Rattle.mq_split.specs.Parting.{AllFree}
 use Rattle.mq_shared.specs.Taking.{AreBack, AreDone, AreOut, OthersStay, OwnOut}
 use Rattle.mq_shared.proofs.sharing.take_all.Given as goal
 
@@ -12,6 +13,7 @@ invariant-loop-lock g l = record {
   out : AreOut g.P.PhaseName.begun l.nodes.items l.ends.items;
   own : g.D.Disk.tells → OwnOut g.P.PhaseName.begun l.nodes.items;
   done : l.wants ≡ false → AreDone l.nodes.items;
+  free : l.wants ≡ false → AllFree l.ends.items;
   long : length l.courses ≡ length l.fn.courses;
   others : OthersStay g.a l.fn.courses l.courses;
   back : AreBack g.a l.nodes.items l.courses;

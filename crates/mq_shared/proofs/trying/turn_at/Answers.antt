@@ -2,8 +2,8 @@ use Rattle.std.proofs.Common.{List, [], subst}
 use Rattle.mq_cable.specs.declared.item.Item.{Item}
 use Rattle.mq_turns.specs.Unseen.{EndTurn}
 use Rattle.mq_ruled.specs.Ends.{PipeEmpty, PipeEnds, PipeFull, PipeTook, PipeWrote}
-use Rattle.mq_shared.specs.Held.{end_actor}
-use Rattle.mq_shared.specs.Took.{EndState}
+use Rattle.mq_split.specs.Ends.{end_actor}
+use Rattle.mq_split.specs.Took.{EndState}
 use Rattle.mq_shared.proofs.trying.turn_at.Goals as goal
 
 pub returns-clause-turn : goal.returns-clause-turn

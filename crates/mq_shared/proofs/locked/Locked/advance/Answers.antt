@@ -17,6 +17,6 @@ try_line-tried-requires-clause-short g c = short_at _ _ c.args.at _ c.self.invar
 pub invariant_of-self : goal.invariant_of-self
 invariant_of-self g c = (
   subst (λ (w : Bool). Kept g.P.PhaseName.begun (record { manager = c.self.inside.manager; node = c.try_line-tried.new.node; ends = c.self.inside.ends; scripts = slice_set c.self.inside.scripts c.args.at c.try_line-tried.new.script; wants = w })) (sym c.is_err-self-inside.ensures.value)
-      (line_kept _ _ c.args.at _ _ _ c.self.invariant.0 c.at_mut.ensures.value c.facts.ensures.kept c.facts-2.ensures.kept c.try_line-tried.result (served_at _ _ c.self.invariant.0 c.if-not-may_go.ensures.0 c.if-not-may_go.ensures.1) c.try_line-tried.ensures.tried),
+      (line_kept _ _ c.args.at _ _ _ c.self.invariant.0 c.at_mut.ensures.value c.facts.ensures.kept c.facts-2.ensures.kept c.if-not-may_go.ensures.0 c.try_line-tried.result (served_at _ _ c.self.invariant.0 c.if-not-may_go.ensures.0 c.if-not-may_go.ensures.1) c.try_line-tried.ensures.tried),
   λ is none. c.try_line-tried.ensures.own is (c.self.invariant.1 is none),
 )
