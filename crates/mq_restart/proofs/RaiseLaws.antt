@@ -55,7 +55,7 @@ has_restarted tells x y found r some =
 -- its own room for a record changes no tie
 pub tied_body : (x : PartsValue) (b : Buffered) → x.log.reserved ≡ 0 → Tied x → Tied (record x { body = b })
 tied_body x b none t = record {
-  up = λ u. let w = t.up u in record { live = w.live; settled = w.settled; room = w.room; body = omega (arith, none) };
+  up = λ u. let w = t.up u in record { live = w.live; settled = w.settled; spare = w.spare; room = w.room; body = omega (arith, none) };
   reserved = t.reserved;
   within = t.within;
   queues = record { lanes = t.queues.lanes; pending = t.queues.pending };

@@ -1,3 +1,4 @@
 pub mod PlaceLaws
 pub mod TakeLaws
 pub mod OrderLaws
+pub mod SumLaws
