@@ -2,3 +2,4 @@ pub mod PlaceLaws
 pub mod TakeLaws
 pub mod OrderLaws
 pub mod SumLaws
+pub mod KeptLaws

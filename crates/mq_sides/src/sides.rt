@@ -5,7 +5,7 @@ ghost use Rattle.std.specs.Str.{bytes_eq};
 ghost use Rattle.mq_calls.specs.Words.{comes_before, set_named};
 ghost use Rattle.mq_sides.specs.Places.{is_of, is_there, place_in, AreByName, CanUndo, standing, undone};
 
-use crate::kept::KeptBatch;
+use crate::kept::{KeptBatch, KeptReceiver, KeptSender};
 use mq_base::{ChName, Items, NoMemory};
 use mq_calls::{ReceiverSide, Seizure, SenderSide};
 use std::alloc::Global;
@@ -33,6 +33,22 @@ impl OfChannel for ReceiverSide {
 
     fn channel(&self) -> &ChName {
         &self.channel
+    }
+}
+
+impl OfChannel for KeptSender {
+    ghost channel_of = { λ s. s.channel };
+
+    fn channel(&self) -> &ChName {
+        &self.side().channel
+    }
+}
+
+impl OfChannel for KeptReceiver {
+    ghost channel_of = { λ s. s.channel };
+
+    fn channel(&self) -> &ChName {
+        &self.side().channel
     }
 }
 
