@@ -11,7 +11,7 @@ use mq_objects::Defs;
 use mq_place::Queues;
 use mq_record::Buffer;
 use mq_sc_apply::Planned;
-use mq_sides::{KeptBatch, KeptReceiver, KeptSender, Rows};
+use mq_sides::{KeptBatch, KeptReceiver, KeptSender, RowRoom};
 use mq_sync::Unit;
 use std::alloc::Global;
 use std::marker::Model;
@@ -128,7 +128,7 @@ pub struct ChannelEnds {
     /// The receiver channels that run.
     pub bound: Items<ChName>,
     /// Room for the rows of a unit in doubt, which are noted where the write that settles it is stopped.
-    pub rows: Rows,
+    pub rows: RowRoom,
 }
 
 /// The parts of a manager. Contracts see each of them, with the room that was taken for rows, for
