@@ -11,6 +11,7 @@ ghost use Rattle.mq_calls.specs.declared.records.LogRecord.TheVariants as record
 ghost use Rattle.mq_record.specs.Records.{record_bytes};
 ghost use Rattle.mq_unit.specs.Told.{told, told_all};
 ghost use Rattle.mq_core.specs.declared.parts.StoppedWrite.TheVariants as writes;
+ghost use Rattle.mq_core.specs.Ties.{EndsReady};
 ghost use Rattle.mq_core.specs.Views.{plain_of};
 ghost use Rattle.mq_agents.specs.Ends.{by_agent};
 ghost use Rattle.mq_agents.specs.Written.{IsWhole, with_senders};
@@ -25,7 +26,7 @@ use mq_core::{Core, Parts, StoppedWrite};
 use mq_disk::Disk;
 use mq_message::Holder;
 use mq_record::resolved_bytes;
-use mq_sides::{sender_of, swap_side, undo_side};
+use mq_sides::{KeptSender, sender_of, swap_side, undo_side};
 use mq_sync::{InDoubt, SenderData, Unit};
 use mq_unit::Effects;
 
@@ -124,11 +125,12 @@ fn write_settled<D: Disk>(
     commit: bool,
     operator: bool,
     bytes: &[u8],
-    side: SenderSide,
+    side: KeptSender,
     rows: Items<Remove>,
 ) -> Result<Items<Remove>, Unwritten>
     requires live { parts.old.log.live ≡ true }
     requires small { length bytes.now < 2 ^ 32 }
+    requires ends { EndsReady (with_senders (set_sender side parts.old.ends.senders) parts.old.ends) parts.old.log.spare }
     ensures { WritesRows rows bytes.now (with_senders (set_sender side parts.old.ends.senders) parts.old.ends) (writes.Settled channel.now unit.now commit operator rows) parts.old result parts.new }
 {
     match parts.log.room(5 + bytes.len() as u64) {
@@ -257,6 +259,7 @@ fn settle_unit<D: Disk>(
         channel: *channel,
         hardened,
     };
+    let kept = KeptSender::of_settled(core.parts.alloc, side);
     let gone = match write_settled(
         &mut core.parts,
         channel,
@@ -264,7 +267,7 @@ fn settle_unit<D: Disk>(
         commit,
         operator,
         bytes,
-        side,
+        kept,
         rows,
     ) {
         Ok(gone) => gone,
