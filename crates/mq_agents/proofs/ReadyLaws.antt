@@ -11,14 +11,15 @@ use Rattle.mq_sides.proofs.PlaceLaws.{sender_found, receiver_found}
 use Rattle.mq_sides.proofs.OrderLaws.{present, sorted_set}
 use Rattle.mq_sides.proofs.SumLaws.{set_summed}
 use Rattle.mq_core.specs.declared.parts.ChannelEnds.{ChannelEnds}
-use Rattle.mq_core.specs.Ties.{EndsReady, doubt_bytes, doubt_rows, session_bytes}
+use Rattle.mq_core.specs.Ties.{EndsReady, doubt_bytes, session_bytes}
+use Rattle.mq_calls.specs.Recovery.{listed}
 use Rattle.mq_agents.specs.Written.{is_live, live_need, with_senders, with_receivers}
 
 abbrev pub doubt_of_side : SenderSide → ℕ
 doubt_of_side s = doubt_bytes s.hardened.in_doubt
 
 abbrev pub rows_of_side : SenderSide → ℕ
-rows_of_side s = doubt_rows s.hardened.in_doubt
+rows_of_side s = length (listed s.hardened.in_doubt)
 
 abbrev pub open_of_side : ReceiverSide → ℕ
 open_of_side r = session_bytes r.hardened.closed
@@ -60,7 +61,7 @@ doubt_in : (o : Option SenderSide) → counted doubt_of_side o ≡ doubt_bytes (
 doubt_in None = refl
 doubt_in (Some s) = refl
 
-rows_in : (o : Option SenderSide) → counted rows_of_side o ≡ doubt_rows (sender_or (option_map (λ (s : SenderSide). s.hardened) o)).in_doubt
+rows_in : (o : Option SenderSide) → counted rows_of_side o ≡ length (listed (sender_or (option_map (λ (s : SenderSide). s.hardened) o)).in_doubt)
 rows_in None = refl
 rows_in (Some s) = refl
 
@@ -68,16 +69,16 @@ old_doubt : (channel : List ℕ) (e : ChannelEnds) → AreByName (λ (s : Sender
 old_doubt channel e w = ap (λ (o : Option SenderSide). counted doubt_of_side o) (present (λ (s : SenderSide). s.channel) channel e.senders w) ∙ doubt_in (find (λ (s : SenderSide). bytes_eq channel s.channel) e.senders)
     ∙ ap (λ (o : Option SenderData). doubt_bytes (sender_or o).in_doubt) (sym (sender_found channel e.senders))
 
-old_rows : (channel : List ℕ) (e : ChannelEnds) → AreByName (λ (s : SenderSide). s.channel) e.senders → counted rows_of_side (old_sender channel e) ≡ doubt_rows (sender_or (sender_in channel e.senders)).in_doubt
+old_rows : (channel : List ℕ) (e : ChannelEnds) → AreByName (λ (s : SenderSide). s.channel) e.senders → counted rows_of_side (old_sender channel e) ≡ length (listed (sender_or (sender_in channel e.senders)).in_doubt)
 old_rows channel e w = ap (λ (o : Option SenderSide). counted rows_of_side o) (present (λ (s : SenderSide). s.channel) channel e.senders w) ∙ rows_in (find (λ (s : SenderSide). bytes_eq channel s.channel) e.senders)
-    ∙ ap (λ (o : Option SenderData). doubt_rows (sender_or o).in_doubt) (sym (sender_found channel e.senders))
+    ∙ ap (λ (o : Option SenderData). length (listed (sender_or o).in_doubt)) (sym (sender_found channel e.senders))
 
 -- a sender that has the same in doubt
 pub sender_kept : (side : SenderSide) (channel : List ℕ) (e : ChannelEnds) (spare : ℕ) → EndsReady e spare → side.channel ≡ channel → side.hardened.in_doubt ≡ (sender_or (sender_in channel e.senders)).in_doubt → EndsReady (with_senders (set_sender side e.senders) e) spare
 sender_kept side channel e spare w named same =
     let here : side.hardened.in_doubt ≡ (sender_or (sender_in side.channel e.senders)).in_doubt = same ∙ ap (λ (c : List ℕ). (sender_or (sender_in c e.senders)).in_doubt) (sym named) in
     let a = ap doubt_bytes here in
-    let b = ap doubt_rows here in
+    let b = ap (λ (o : Option InDoubt). length (listed o)) here in
     let c = old_doubt side.channel e w.senders in
     let d = old_rows side.channel e w.senders in
     let zero : spare + 0 ≡ spare = omega arith in
@@ -87,7 +88,7 @@ sender_kept side channel e spare w named same =
 pub sender_settled : (side : SenderSide) (e : ChannelEnds) (spare : ℕ) → EndsReady e spare → side.hardened.in_doubt ≡ None → EndsReady (with_senders (set_sender side e.senders) e) spare
 sender_settled side e spare w none =
     let a = ap doubt_bytes none in
-    let b = ap doubt_rows none in
+    let b = ap (λ (o : Option InDoubt). length (listed o)) none in
     let zero : spare + 0 ≡ spare = omega arith in
     subst (EndsReady (with_senders (set_sender side e.senders) e)) zero (sender_ready side e e.rows spare 0 0 w (omega (arith, a)) (omega (arith, b)) (omega arith))
 
@@ -96,7 +97,7 @@ most_doubt : (o : Option InDoubt) → doubt_bytes o ≤ 44
 most_doubt None = omega arith
 most_doubt (Some d) = omega arith
 
-pub sender_doubts : (side : SenderSide) (e : ChannelEnds) (k : RowsKept) (spare n : ℕ) → EndsReady e spare → doubt_rows side.hardened.in_doubt ≡ n → e.rows.room + n ≤ k.room → EndsReady (with_senders (set_sender side e.senders) (record e { rows = k })) (spare + 44)
+pub sender_doubts : (side : SenderSide) (e : ChannelEnds) (k : RowsKept) (spare n : ℕ) → EndsReady e spare → length (listed side.hardened.in_doubt) ≡ n → e.rows.room + n ≤ k.room → EndsReady (with_senders (set_sender side e.senders) (record e { rows = k })) (spare + 44)
 sender_doubts side e k spare n w is room = let a = most_doubt side.hardened.in_doubt in sender_ready side e k spare 44 n w (omega (arith, a)) (omega (arith, is)) room
 
 -- receivers

@@ -157,6 +157,31 @@ fn write_receiver<D: Disk>(
     Ok(undo.before)
 }
 
+/// What a sender has hardened, with the room that it needs.
+pub(crate) fn kept_sender<D: Disk>(
+    parts: &Parts<D>,
+    side: SenderSide,
+) -> Result<KeptSender, NoMemory>
+    ensures { IfOk result (λ k. k ≡ side) }
+{
+    KeptSender::new(parts.alloc, side)
+}
+
+/// What a receiver has hardened, with the room that it needs.
+fn kept_receiver<D: Disk>(parts: &Parts<D>, side: ReceiverSide) -> Result<KeptReceiver, NoMemory>
+    ensures { IfOk result (λ k. k ≡ side) }
+{
+    KeptReceiver::new(parts.alloc, side)
+}
+
+/// What a receiver has hardened whose session is closed. It takes no memory.
+fn kept_closed<D: Disk>(parts: &Parts<D>, side: ReceiverSide) -> KeptReceiver
+    requires { side.hardened.closed ≡ true }
+    ensures { result ≡ side }
+{
+    KeptReceiver::of_closed(parts.alloc, side)
+}
+
 /// Sets aside what the log takes when a session of a receiver is closed, where its session is open from now on and none was.
 ///
 /// # Errors
@@ -231,7 +256,7 @@ fn harden_sender<D: Disk>(
         Ok(()) => {}
         Err(NoMemory) => return Err(AgentStop::NoMemory),
     }
-    let kept = match KeptSender::new(core.parts.alloc, side) {
+    let kept = match kept_sender(&core.parts, side) {
         Ok(kept) => kept,
         Err(NoMemory) => return Err(AgentStop::NoMemory),
     };
@@ -273,7 +298,7 @@ fn harden_receiver<D: Disk>(
         Err(NoMemory) => return Err(AgentStop::NoMemory),
     }
     let closed = side.hardened.closed;
-    let kept = match KeptReceiver::new(core.parts.alloc, side) {
+    let kept = match kept_receiver(&core.parts, side) {
         Ok(kept) => kept,
         Err(NoMemory) => return Err(AgentStop::NoMemory),
     };
@@ -326,7 +351,7 @@ fn close<D: Disk>(
 {
     core.begin_call();
     draw(&mut core.parts, CLOSING);
-    let kept = KeptReceiver::of_closed(core.parts.alloc, side);
+    let kept = kept_closed(&core.parts, side);
     let before = match write_receiver(&mut core.parts, channel, note, bytes, kept) {
         Ok(before) => before,
         Err(unwritten) => {

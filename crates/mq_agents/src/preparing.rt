@@ -8,7 +8,8 @@ ghost use Rattle.mq_record.specs.Room.{with_piece};
 ghost use Rattle.mq_core.specs.declared.parts.StoppedWrite.TheVariants as writes;
 ghost use Rattle.mq_core.specs.Views.{plain_of};
 ghost use Rattle.mq_calls.specs.declared.state.SenderSide.{SenderSide as Sender};
-ghost use Rattle.mq_core.specs.Ties.{EndsReady, Tied, doubt_rows};
+ghost use Rattle.mq_core.specs.Ties.{EndsReady, Tied};
+ghost use Rattle.mq_calls.specs.Recovery.{listed};
 ghost use Rattle.mq_core.specs.Forced.{HasMoreRoom};
 ghost use Rattle.mq_agents.specs.Ends.{by_prepare};
 ghost use Rattle.mq_agents.specs.Written.{Writes, with_senders};
@@ -16,7 +17,7 @@ ghost use Rattle.mq_agents.specs.Removing.{Doubts, ident_put, IsDoubtOf, IsFille
 ghost use Rattle.mq_core.specs.Values.{manager_of, WritesLog};
 
 use crate::discarding::make_record_room;
-use crate::hardening::{Unwritten, agent_of, go_down, sender_now, stop_of};
+use crate::hardening::{Unwritten, agent_of, go_down, kept_sender, sender_now, stop_of};
 use mq_base::{ChName, Items, NoMemory};
 use mq_calls::{AgentStop, Batch, Did, PrepareFault, SenderSide};
 use mq_core::{Core, Parts, StoppedWrite};
@@ -144,7 +145,7 @@ fn write_doubt<D: Disk>(
 /// Sets aside what the settlement of a unit of so many rows takes: of the log, and for the note of its stopped write.
 fn aside_for_doubt<D: Disk>(parts: &mut Parts<D>, count: usize) -> Result<(), NoMemory>
     ensures more { HasMoreRoom parts.old parts.new }
-    ensures ready { OnOk result (EndsReady parts.old.ends parts.old.log.spare → (side : Sender) → doubt_rows side.hardened.in_doubt ≡ count → EndsReady (with_senders (set_sender side parts.new.ends.senders) parts.new.ends) parts.new.log.spare) }
+    ensures ready { OnOk result (EndsReady parts.old.ends parts.old.log.spare → (side : Sender) → length (listed side.hardened.in_doubt) ≡ count → EndsReady (with_senders (set_sender side parts.new.ends.senders) parts.new.ends) parts.new.log.spare) }
 {
     match parts.ends.rows.set_aside(count) {
         Ok(()) => {}
@@ -205,7 +206,7 @@ fn prepare_unit<D: Disk>(
             in_doubt: Some(doubt),
         },
     };
-    let kept = match KeptSender::new(core.parts.alloc, side) {
+    let kept = match kept_sender(&core.parts, side) {
         Ok(kept) => kept,
         Err(NoMemory) => return Err(PrepareFault::Stop(AgentStop::NoMemory)),
     };

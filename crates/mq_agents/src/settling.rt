@@ -1,5 +1,5 @@
 //! A unit in doubt is settled: its rows go, or are free again.
-ghost use Rattle.std.specs.Prelude.{◌≡◌, ◌<◌, ◌≤◌, ◌^◌, Some, true, map, length, take, flat_map, option_copied, IfOk};
+ghost use Rattle.std.specs.Prelude.{◌≡◌, ◌<◌, ◌≤◌, ◌^◌, Some, None, true, map, length, take, flat_map, option_copied, IfOk};
 ghost use Rattle.mq_message.specs.declared.place.Holder.TheVariants as holders;
 ghost use Rattle.mq_calls.specs.Words.{MeetsOrWants, set_sender, sender_data, data_settled, settle_by, stored};
 ghost use Rattle.mq_calls.specs.Reads.{in_doubt_of};
@@ -219,6 +219,14 @@ fn tell_settled(effects: &mut Effects, rows: &[Remove], commit: bool)
     }
 }
 
+/// What a sender has hardened that has nothing in doubt. It takes no memory.
+fn kept_settled<D: Disk>(parts: &Parts<D>, side: SenderSide) -> KeptSender
+    requires { side.hardened.in_doubt ≡ None }
+    ensures { result ≡ side }
+{
+    KeptSender::of_settled(parts.alloc, side)
+}
+
 /// A sender hardens a record of these bytes, which says that its unit in doubt is settled.
 fn settle_unit<D: Disk>(
     core: &mut Core<D>,
@@ -259,7 +267,7 @@ fn settle_unit<D: Disk>(
         channel: *channel,
         hardened,
     };
-    let kept = KeptSender::of_settled(core.parts.alloc, side);
+    let kept = kept_settled(&core.parts, side);
     let gone = match write_settled(
         &mut core.parts,
         channel,
