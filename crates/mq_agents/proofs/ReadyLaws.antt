@@ -1,6 +1,6 @@
 -- Channel ends stay ready where a side is set.
 use Rattle.std.proofs.Common.{◌≡◌, ℕ, ◌+◌, ◌-◌, ◌≤◌, Bool, true, false, List, [], ◌∷◌, length, refl, ap, arith, sym, subst, ◌∙◌}
-use Rattle.std.specs.Prelude.{Option, Some, None, find, not, option_map}
+use Rattle.std.specs.Prelude.{Option, Some, None, find, is_some, not, option_map}
 use Rattle.std.specs.Str.{bytes_eq}
 use Rattle.mq_calls.specs.Words.{InDoubt, SenderData, ReceiverData, sender_in, sender_or, receiver_in, receiver_or, set_sender, set_receiver}
 use Rattle.mq_calls.specs.declared.state.SenderSide.{SenderSide}
@@ -13,7 +13,7 @@ use Rattle.mq_sides.proofs.SumLaws.{set_summed}
 use Rattle.mq_core.specs.declared.parts.ChannelEnds.{ChannelEnds}
 use Rattle.mq_core.specs.Ties.{EndsReady, doubt_bytes, session_bytes}
 use Rattle.mq_calls.specs.Recovery.{listed}
-use Rattle.mq_agents.specs.Written.{is_live, live_need, with_senders, with_receivers}
+use Rattle.mq_agents.specs.Written.{drawn_need, is_live, live_need, with_senders, with_receivers}
 
 abbrev pub doubt_of_side : SenderSide → ℕ
 doubt_of_side s = doubt_bytes s.hardened.in_doubt
@@ -155,3 +155,28 @@ live_there (Some r) e f = absurd cc
 
 pub live_found : (channel : List ℕ) (rs : List ReceiverSide) → is_live (receiver_in channel rs) ≡ true → find (λ (r : ReceiverSide). bytes_eq channel r.channel) rs ≡ None → ⊥
 live_found channel rs live none = live_there (find (λ (r : ReceiverSide). bytes_eq channel r.channel) rs) (ap is_live (sym (receiver_found channel rs)) ∙ live) none
+
+-- so much is set aside for a session that is open
+pub closing_spare : (side : ReceiverSide) (e : ChannelEnds) (spare : ℕ) → EndsReady e spare → side.hardened.closed ≡ true → 34 ≤ counted open_of_side (old_receiver side.channel e) → 34 ≤ spare
+closing_spare side e spare w closed had =
+    let s = set_summed (λ (r : ReceiverSide). r.channel) side e.receivers open_of_side in
+    let none = ap session_bytes closed in
+    let a = w.log in
+    omega (arith, s, a, none, had)
+
+-- a unit in doubt that is settled needs what is set aside no longer
+need_of : (o : Option InDoubt) → doubt_bytes o ≡ drawn_need (is_some o)
+need_of None = refl
+need_of (Some d) = refl
+
+pub sender_gone : (had : Bool) (side : SenderSide) (channel : List ℕ) (e : ChannelEnds) (spare : ℕ) → EndsReady e spare → side.channel ≡ channel → side.hardened.in_doubt ≡ None → had ≡ is_some (sender_or (sender_in channel e.senders)).in_doubt
+    → (drawn_need had ≤ spare) × EndsReady (with_senders (set_sender side e.senders) e) (spare - drawn_need had)
+sender_gone had side channel e spare w named none is =
+    let s = set_summed (λ (s : SenderSide). s.channel) side e.senders doubt_of_side in
+    let r = set_summed (λ (s : SenderSide). s.channel) side e.senders rows_of_side in
+    let here = ap doubt_bytes none in
+    let gone = ap (λ (o : Option InDoubt). length (listed o)) none in
+    let c = old_doubt side.channel e w.senders ∙ ap (λ (n : List ℕ). doubt_bytes (sender_or (sender_in n e.senders)).in_doubt) named ∙ need_of (sender_or (sender_in channel e.senders)).in_doubt ∙ ap drawn_need (sym is) in
+    let a = w.log in
+    let b = w.rows in
+    (omega (arith, s, here, c, a), record { log = omega (arith, s, here, c, a); rows = omega (arith, r, gone, b); senders = sorted_set (λ (s : SenderSide). s.channel) side e.senders w.senders; receivers = w.receivers })

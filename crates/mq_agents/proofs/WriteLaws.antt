@@ -38,7 +38,7 @@ use Rattle.mq_record.specs.Room.{Buffered}
 use Rattle.mq_agents.specs.Removing.{IsRoomy}
 use Rattle.mq_core.proofs.ForceLaws.{forced_view, frozen_view, tied_downed, stops_at}
 use Rattle.mq_agents.specs.Ends.{halt_of, stopped_agent}
-use Rattle.mq_agents.specs.Written.{IsAside, IsWhole, IsWritten, Lacks, Writes, WantsNone, drawn, is_live, agent_of, stop_of, with_senders, with_receivers, note_record, noted_change}
+use Rattle.mq_agents.specs.Written.{IsAside, IsWhole, IsWritten, Lacks, Writes, WantsNone, drawn, drawn_if, drawn_need, is_live, agent_of, stop_of, with_senders, with_receivers, note_record, noted_change}
 use Rattle.mq_agents.specs.declared.hardening.Unwritten.{Unwritten}
 use Rattle.mq_agents.specs.declared.hardening.Unwritten.TheVariants as unwritten
 use Rattle.mq_agents.specs.Ends.{by_agent}
@@ -99,6 +99,58 @@ more_trans x y z m n = record {
   rows = omega (arith, m.rows, n.rows);
   body = omega (arith, m.body, n.body);
 }
+
+pub roomed_more : (x y : PartsValue) (k : RowsKept) (room spare : ℕ) (b : Buffered) → y ≡ record x { ends = record x.ends { rows = k }; log = record x.log { room = room; spare = spare }; body = b }
+    → x.log.room ≤ room → x.log.spare ≤ spare → x.ends.rows.room ≤ k.room → x.body.room + length x.body.bytes ≤ b.room + length b.bytes → HasMoreRoom x y
+unfolding roomed
+roomed_more x y k room spare b e more aside rows body =
+    let ks : k ≡ y.ends.rows = sym (ap (λ (p : PartsValue). p.ends.rows) e) in
+    let rs : room ≡ y.log.room = sym (ap (λ (p : PartsValue). p.log.room) e) in
+    let ss : spare ≡ y.log.spare = sym (ap (λ (p : PartsValue). p.log.spare) e) in
+    let bs : b ≡ y.body = sym (ap (λ (p : PartsValue). p.body) e) in
+    let long = ap (λ (b : Buffered). b.room + length b.bytes) bs in
+    let wide = ap (λ (r : RowsKept). r.room) ks in
+    record {
+      same = e ∙ (λ i. roomed (ks i) (rs i) (ss i) (bs i) x);
+      log = omega (arith, rs, more);
+      spare = omega (arith, ss, aside);
+      rows = omega (arith, wide, rows);
+      body = omega (arith, long, body);
+    }
+
+pub aside_trans : (x y z : PartsValue) → IsAside x y → IsAside y z → IsAside x z
+unfolding roomed
+aside_trans x y z m n = record { same = n.same ∙ ap (roomed z.ends.rows z.log.room z.log.spare z.body) m.same; body = omega (arith, m.body, n.body) }
+
+pub rows_aside : (x y : PartsValue) (k : RowsKept) → y ≡ record x { ends = record x.ends { rows = k } } → IsAside x y
+unfolding roomed
+rows_aside x y k e =
+    let ks : k ≡ y.ends.rows = sym (ap (λ (p : PartsValue). p.ends.rows) e) in
+    let rs : x.log.room ≡ y.log.room = sym (ap (λ (p : PartsValue). p.log.room) e) in
+    let ss : x.log.spare ≡ y.log.spare = sym (ap (λ (p : PartsValue). p.log.spare) e) in
+    let bs : x.body ≡ y.body = sym (ap (λ (p : PartsValue). p.body) e) in
+    let long = ap (λ (b : Buffered). b.room + length b.bytes) bs in
+    record { same = e ∙ (λ i. roomed (ks i) (rs i) (ss i) (bs i) x); body = omega (arith, long) }
+
+pub aside_tied : (x y : PartsValue) → IsAside x y → x.log.room ≤ y.log.room → EndsReady y.ends y.log.spare → Tied x → Tied y
+aside_tied x y m room ready t =
+    let e : y.ends ≡ record x.ends { rows = y.ends.rows } = ap (λ (p : PartsValue). p.ends) m.same in
+    subst Tied (sym m.same) (record {
+      up = λ u. let w = t.up u in record {
+        live = w.live;
+        settled = w.settled;
+        ends = subst (λ (k : ChannelEnds). EndsReady k y.log.spare) e ready;
+        room = let a = w.room in omega (arith, a, room);
+        body = let a = w.body in omega (arith, a, m.body);
+      };
+      reserved = t.reserved;
+      within = t.within;
+      queues = record { lanes = t.queues.lanes; pending = t.queues.pending };
+      idents = record { once = t.idents.once; given = t.idents.given };
+      forced = t.forced;
+      max = t.max;
+      moment = t.moment;
+    })
 
 pub drawn_aside : (n : ℕ) (x : PartsValue) → IsAside x (drawn n x)
 drawn_aside n x = record { same = refl; body = omega arith }
@@ -188,6 +240,21 @@ down_tied write r bytes stop x y z is size m w t =
     let v : IsWritten bytes e (asleep y) (Err stop) (asleep z) = record { same = ap asleep w.same; log = w.log; calls = w.calls; room = tt; enough = tt; ends = tt; later = w.later; disk = w.disk } in
     subst (λ (k : PartsValue). Tied (downed_by write k)) (sym w.same)
     (other_ends e (downed write (with_log z.log (asleep y))) refl (tied_downed write r [] (asleep y) (with_log z.log (asleep y)) stop (forced_as r bytes e (asleep y) (asleep z) (Err stop) is size v) (asleep_tied x y m t)))
+
+-- so where a unit was in doubt
+pub drawn_if_aside : (had : Bool) (x y : PartsValue) → y ≡ drawn_if had x → IsAside x y
+drawn_if_aside true x y e = subst (IsAside x) (sym e) (drawn_aside 44 x)
+drawn_if_aside false x y e = subst (IsAside x) (sym e) (same_aside x)
+
+pub drawn_if_room : (had : Bool) (x y : PartsValue) → y ≡ drawn_if had x → x.log.room ≤ y.log.room
+drawn_if_room true x y e = let a = ap (λ (p : PartsValue). p.log.room) e in omega (arith, a)
+drawn_if_room false x y e = let a = ap (λ (p : PartsValue). p.log.room) e in omega (arith, a)
+
+pub drawn_if_ready : (had : Bool) (x y : PartsValue) → y ≡ drawn_if had x → EndsReady x.ends (x.log.spare - drawn_need had) → EndsReady y.ends y.log.spare
+drawn_if_ready true x y e w = subst (λ (p : PartsValue). EndsReady p.ends p.log.spare) (sym e) w
+drawn_if_ready false x y e w =
+    let zero : x.log.spare - 0 ≡ x.log.spare = omega arith in
+    subst (λ (p : PartsValue). EndsReady p.ends p.log.spare) (sym e) (subst (EndsReady x.ends) zero w)
 
 -- What is noted is read of the ends of channels alone.
 two_one : {A : Type 0} (a b c : A) → a ∷ b ∷ [] ≡ c ∷ [] → ⊥

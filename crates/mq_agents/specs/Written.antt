@@ -1,5 +1,5 @@
 -- Records that channel ends force, with what they say of an end.
-use Rattle.std.specs.Prelude.{◌≡◌, ◌⊎◌, ℕ, ◌+◌, ◌-◌, ◌<◌, ◌≤◌, Bool, false, List, [], ◌∷◌, length, not, Option, Some, None, Result, Ok, Err, OnOk, IsErrOf}
+use Rattle.std.specs.Prelude.{◌≡◌, ◌⊎◌, ℕ, ◌+◌, ◌-◌, ◌<◌, ◌≤◌, Bool, true, false, List, [], ◌∷◌, length, not, Option, Some, None, Result, Ok, Err, OnOk, IsErrOf}
 use Rattle.mq_base.specs.Outside.{Rose}
 use Rattle.mq_disk.specs.declared.cutter.Stop.{Stop}
 use Rattle.mq_disk.specs.declared.cutter.Stop.TheVariants as stops
@@ -87,6 +87,15 @@ pub record IsAside (x y : PartsValue) : Type 0 where
 -- bytes that were set aside are room again
 abbrev pub drawn : ℕ → PartsValue → PartsValue
 drawn n x = record x { log = record x.log { room = x.log.room + n; spare = x.log.spare - n } }
+
+-- so for a unit that was in doubt
+abbrev pub drawn_need : (had : Bool) → ℕ
+drawn_need true = 44
+drawn_need false = 0
+
+abbrev pub drawn_if : (had : Bool) → PartsValue → PartsValue
+drawn_if true x = drawn 44 x
+drawn_if false x = x
 
 -- an end's session is open
 abbrev pub is_live : Option ReceiverData → Bool

@@ -197,7 +197,19 @@ pub fn aside_for<D: Disk>(parts: &mut Parts<D>, channel: &ChName, closed: bool) 
     if has_live(parts, channel) {
         return Ok(());
     }
-    match parts.log.set_aside(CLOSING) {
+    match aside_log(parts, CLOSING) {
+        Ok(()) => Ok(()),
+        Err(NoMemory) => Err(NoMemory),
+    }
+}
+
+/// Sets so many bytes of the log's memory aside.
+pub(crate) fn aside_log<D: Disk>(parts: &mut Parts<D>, bytes: u64) -> Result<(), NoMemory>
+    ensures more { HasMoreRoom parts.old parts.new }
+    ensures ends { parts.new.ends ≡ parts.old.ends }
+    ensures spare { OnOk result (parts.new.log.spare ≡ parts.old.log.spare + bytes) }
+{
+    match parts.log.set_aside(bytes) {
         Ok(()) => Ok(()),
         Err(NoMemory) => Err(NoMemory),
     }

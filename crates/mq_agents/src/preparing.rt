@@ -17,7 +17,7 @@ ghost use Rattle.mq_agents.specs.Removing.{Doubts, ident_put, IsDoubtOf, IsFille
 ghost use Rattle.mq_core.specs.Values.{manager_of, WritesLog};
 
 use crate::discarding::make_record_room;
-use crate::hardening::{Unwritten, agent_of, go_down, kept_sender, sender_now, stop_of};
+use crate::hardening::{Unwritten, agent_of, aside_log, go_down, kept_sender, sender_now, stop_of};
 use mq_base::{ChName, Items, NoMemory};
 use mq_calls::{AgentStop, Batch, Did, PrepareFault, SenderSide};
 use mq_core::{Core, Parts, StoppedWrite};
@@ -61,6 +61,7 @@ fn copy_batch<D: Disk>(parts: &Parts<D>, batch: &Batch, last: u32) -> Result<InD
     }
 }
 
+/// The batch of a channel that is not prepared.
 pub(crate) fn batch_now<'a, D: Disk>(parts: &'a Parts<D>, channel: &ChName) -> Option<&'a Batch>
     ensures { option_copied result ≡ batch_of channel.now (plain_of parts.now).channels.batches }
 {
@@ -147,11 +148,24 @@ fn aside_for_doubt<D: Disk>(parts: &mut Parts<D>, count: usize) -> Result<(), No
     ensures more { HasMoreRoom parts.old parts.new }
     ensures ready { OnOk result (EndsReady parts.old.ends parts.old.log.spare → (side : Sender) → length (listed side.hardened.in_doubt) ≡ count → EndsReady (with_senders (set_sender side parts.new.ends.senders) parts.new.ends) parts.new.log.spare) }
 {
-    match parts.ends.rows.set_aside(count) {
+    match aside_rows(parts, count) {
         Ok(()) => {}
         Err(NoMemory) => return Err(NoMemory),
     }
-    match parts.log.set_aside(SETTLING) {
+    match aside_log(parts, SETTLING) {
+        Ok(()) => Ok(()),
+        Err(NoMemory) => Err(NoMemory),
+    }
+}
+
+/// Makes room for so many rows of a note.
+fn aside_rows<D: Disk>(parts: &mut Parts<D>, count: usize) -> Result<(), NoMemory>
+    ensures more { HasMoreRoom parts.old parts.new }
+    ensures spare { parts.new.log.spare ≡ parts.old.log.spare }
+    ensures ends { parts.new.ends ≡ record parts.old.ends { rows = parts.new.ends.rows } }
+    ensures room { OnOk result (parts.new.ends.rows.room ≡ parts.old.ends.rows.room + count) }
+{
+    match parts.ends.rows.set_aside(count) {
         Ok(()) => Ok(()),
         Err(NoMemory) => Err(NoMemory),
     }
