@@ -1,5 +1,5 @@
 -- In a list in the order of its names, what is not found at the name's place is nowhere.
-use Rattle.std.proofs.Common.{Ordering, Less, Equal, Greater, ◌≡◌, ℕ, Bool, true, false, List, [], ◌∷◌, refl, ap, sym, subst, ◌∙◌, suc, cond, ◌⊎◌, inl, inr}
+use Rattle.std.proofs.Common.{Ordering, Less, Equal, Greater, ◌≡◌, ℕ, Bool, true, false, List, [], ◌∷◌, refl, ap, sym, ◌∙◌, suc, cond, ◌⊎◌, inl, inr}
 use Rattle.std.specs.Prelude.{Option, Some, None, find, slice_get, ◌||◌}
 use Rattle.std.specs.Str.{bytes_eq}
 use Rattle.std.specs.Ordering.{is_lt, is_eq, nat_cmp, ordering_reverse}

@@ -1,7 +1,6 @@
 -- Sums over a list in which one value takes the place of another, or is put between others.
-use Rattle.std.proofs.Common.{◌≡◌, ℕ, Bool, true, false, cond, refl, zero, suc, ◌+◌, ◌≤◌, List, [], ◌∷◌, length, ap, arith, ◌∙◌, sym}
-use Rattle.std.specs.Prelude.{◌||◌, Option, Some, None, slice_get, slice_set, sum_by}
-use Rattle.std.specs.List.{insert}
+use Rattle.std.proofs.Common.{◌≡◌, ℕ, Bool, true, false, cond, refl, suc, ◌+◌, List, [], ◌∷◌, ap, arith}
+use Rattle.std.specs.Prelude.{◌||◌, Option, Some, None, slice_get, sum_by}
 use Rattle.std.specs.Str.{bytes_eq}
 use Rattle.std.proofs.lemmas.List.Sums.{sum_by-cons}
 use Rattle.mq_calls.specs.Words.{comes_before, set_named}
