@@ -15,15 +15,6 @@ use Rattle.mq_core.specs.Ties.{EndsReady, doubt_bytes, session_bytes}
 use Rattle.mq_calls.specs.Recovery.{listed}
 use Rattle.mq_agents.specs.Written.{drawn_need, is_live, live_need, with_senders, with_receivers}
 
-abbrev pub doubt_of_side : SenderSide → ℕ
-doubt_of_side s = doubt_bytes s.hardened.in_doubt
-
-abbrev pub rows_of_side : SenderSide → ℕ
-rows_of_side s = length (listed s.hardened.in_doubt)
-
-abbrev pub open_of_side : ReceiverSide → ℕ
-open_of_side r = session_bytes r.hardened.closed
-
 abbrev pub old_sender : List ℕ → ChannelEnds → Option SenderSide
 old_sender channel e = standing (λ (s : SenderSide). s.channel) channel e.senders
 
@@ -31,46 +22,46 @@ abbrev pub old_receiver : List ℕ → ChannelEnds → Option ReceiverSide
 old_receiver channel e = standing (λ (r : ReceiverSide). r.channel) channel e.receivers
 
 -- so much more is set aside as the new side needs more than the old
-pub sender_ready : (side : SenderSide) (e : ChannelEnds) (k : RowsKept) (spare m n : ℕ) → EndsReady e spare → doubt_of_side side ≤ counted doubt_of_side (old_sender side.channel e) + m → rows_of_side side ≤ counted rows_of_side (old_sender side.channel e) + n
+pub sender_ready : (side : SenderSide) (e : ChannelEnds) (k : RowsKept) (spare m n : ℕ) → EndsReady e spare → doubt_bytes side.hardened.in_doubt ≤ counted (λ (s : SenderSide). doubt_bytes s.hardened.in_doubt) (old_sender side.channel e) + m → length (listed side.hardened.in_doubt) ≤ counted (λ (s : SenderSide). length (listed s.hardened.in_doubt)) (old_sender side.channel e) + n
     → e.rows.room + n ≤ k.room → EndsReady (with_senders (set_sender side e.senders) (record e { rows = k })) (spare + m)
 sender_ready side e k spare m n w bytes rows room =
-    let s = set_summed (λ (s : SenderSide). s.channel) side e.senders doubt_of_side in
-    let r = set_summed (λ (s : SenderSide). s.channel) side e.senders rows_of_side in
+    let s = set_summed (λ (s : SenderSide). s.channel) side e.senders (λ (s : SenderSide). doubt_bytes s.hardened.in_doubt) in
+    let r = set_summed (λ (s : SenderSide). s.channel) side e.senders (λ (s : SenderSide). length (listed s.hardened.in_doubt)) in
     let a = w.log in
     let b = w.rows in
     record { log = omega (arith, s, a, bytes); rows = omega (arith, r, b, rows, room); senders = sorted_set (λ (s : SenderSide). s.channel) side e.senders w.senders; receivers = w.receivers }
 
-pub receiver_ready : (side : ReceiverSide) (e : ChannelEnds) (spare m : ℕ) → EndsReady e spare → open_of_side side ≤ counted open_of_side (old_receiver side.channel e) + m
+pub receiver_ready : (side : ReceiverSide) (e : ChannelEnds) (spare m : ℕ) → EndsReady e spare → session_bytes side.hardened.closed ≤ counted (λ (r : ReceiverSide). session_bytes r.hardened.closed) (old_receiver side.channel e) + m
     → EndsReady (with_receivers (set_receiver side e.receivers) e) (spare + m)
 receiver_ready side e spare m w bytes =
-    let s = set_summed (λ (r : ReceiverSide). r.channel) side e.receivers open_of_side in
+    let s = set_summed (λ (r : ReceiverSide). r.channel) side e.receivers (λ (r : ReceiverSide). session_bytes r.hardened.closed) in
     let a = w.log in
     record { log = omega (arith, s, a, bytes); rows = w.rows; senders = w.senders; receivers = sorted_set (λ (r : ReceiverSide). r.channel) side e.receivers w.receivers }
 
 -- a session that is closed needs what is set aside no longer
-pub receiver_closed : (side : ReceiverSide) (e : ChannelEnds) (spare : ℕ) → EndsReady e spare → side.hardened.closed ≡ true → 34 ≤ counted open_of_side (old_receiver side.channel e)
+pub receiver_closed : (side : ReceiverSide) (e : ChannelEnds) (spare : ℕ) → EndsReady e spare → side.hardened.closed ≡ true → 34 ≤ counted (λ (r : ReceiverSide). session_bytes r.hardened.closed) (old_receiver side.channel e)
     → EndsReady (with_receivers (set_receiver side e.receivers) e) (spare - 34)
 receiver_closed side e spare w closed had =
-    let s = set_summed (λ (r : ReceiverSide). r.channel) side e.receivers open_of_side in
+    let s = set_summed (λ (r : ReceiverSide). r.channel) side e.receivers (λ (r : ReceiverSide). session_bytes r.hardened.closed) in
     let none = ap session_bytes closed in
     let a = w.log in
     record { log = omega (arith, s, a, none, had); rows = w.rows; senders = w.senders; receivers = sorted_set (λ (r : ReceiverSide). r.channel) side e.receivers w.receivers }
 
 -- what stood, by what is found
-doubt_in : (o : Option SenderSide) → counted doubt_of_side o ≡ doubt_bytes (sender_or (option_map (λ (s : SenderSide). s.hardened) o)).in_doubt
+doubt_in : (o : Option SenderSide) → counted (λ (s : SenderSide). doubt_bytes s.hardened.in_doubt) o ≡ doubt_bytes (sender_or (option_map (λ (s : SenderSide). s.hardened) o)).in_doubt
 doubt_in None = refl
 doubt_in (Some s) = refl
 
-rows_in : (o : Option SenderSide) → counted rows_of_side o ≡ length (listed (sender_or (option_map (λ (s : SenderSide). s.hardened) o)).in_doubt)
+rows_in : (o : Option SenderSide) → counted (λ (s : SenderSide). length (listed s.hardened.in_doubt)) o ≡ length (listed (sender_or (option_map (λ (s : SenderSide). s.hardened) o)).in_doubt)
 rows_in None = refl
 rows_in (Some s) = refl
 
-old_doubt : (channel : List ℕ) (e : ChannelEnds) → AreByName (λ (s : SenderSide). s.channel) e.senders → counted doubt_of_side (old_sender channel e) ≡ doubt_bytes (sender_or (sender_in channel e.senders)).in_doubt
-old_doubt channel e w = ap (λ (o : Option SenderSide). counted doubt_of_side o) (present (λ (s : SenderSide). s.channel) channel e.senders w) ∙ doubt_in (find (λ (s : SenderSide). bytes_eq channel s.channel) e.senders)
+old_doubt : (channel : List ℕ) (e : ChannelEnds) → AreByName (λ (s : SenderSide). s.channel) e.senders → counted (λ (s : SenderSide). doubt_bytes s.hardened.in_doubt) (old_sender channel e) ≡ doubt_bytes (sender_or (sender_in channel e.senders)).in_doubt
+old_doubt channel e w = ap (λ (o : Option SenderSide). counted (λ (s : SenderSide). doubt_bytes s.hardened.in_doubt) o) (present (λ (s : SenderSide). s.channel) channel e.senders w) ∙ doubt_in (find (λ (s : SenderSide). bytes_eq channel s.channel) e.senders)
     ∙ ap (λ (o : Option SenderData). doubt_bytes (sender_or o).in_doubt) (sym (sender_found channel e.senders))
 
-old_rows : (channel : List ℕ) (e : ChannelEnds) → AreByName (λ (s : SenderSide). s.channel) e.senders → counted rows_of_side (old_sender channel e) ≡ length (listed (sender_or (sender_in channel e.senders)).in_doubt)
-old_rows channel e w = ap (λ (o : Option SenderSide). counted rows_of_side o) (present (λ (s : SenderSide). s.channel) channel e.senders w) ∙ rows_in (find (λ (s : SenderSide). bytes_eq channel s.channel) e.senders)
+old_rows : (channel : List ℕ) (e : ChannelEnds) → AreByName (λ (s : SenderSide). s.channel) e.senders → counted (λ (s : SenderSide). length (listed s.hardened.in_doubt)) (old_sender channel e) ≡ length (listed (sender_or (sender_in channel e.senders)).in_doubt)
+old_rows channel e w = ap (λ (o : Option SenderSide). counted (λ (s : SenderSide). length (listed s.hardened.in_doubt)) o) (present (λ (s : SenderSide). s.channel) channel e.senders w) ∙ rows_in (find (λ (s : SenderSide). bytes_eq channel s.channel) e.senders)
     ∙ ap (λ (o : Option SenderData). length (listed (sender_or o).in_doubt)) (sym (sender_found channel e.senders))
 
 -- a sender that has the same in doubt
@@ -101,7 +92,7 @@ pub sender_doubts : (side : SenderSide) (e : ChannelEnds) (k : RowsKept) (spare 
 sender_doubts side e k spare n w is room = let a = most_doubt side.hardened.in_doubt in sender_ready side e k spare 44 n w (omega (arith, a)) (omega (arith, is)) room
 
 -- receivers
-open_in : (o : Option ReceiverSide) → is_live (option_map (λ (r : ReceiverSide). r.hardened) o) ≡ true → counted open_of_side o ≡ 34
+open_in : (o : Option ReceiverSide) → is_live (option_map (λ (r : ReceiverSide). r.hardened) o) ≡ true → counted (λ (r : ReceiverSide). session_bytes r.hardened.closed) o ≡ 34
 open_in None e = absurd cc
 open_in (Some r) e = by r.hardened.closed e
   where
@@ -109,9 +100,9 @@ open_in (Some r) e = by r.hardened.closed e
     by true e = absurd cc
     by false e = refl
 
-pub old_open : (channel : List ℕ) (e : ChannelEnds) → AreByName (λ (r : ReceiverSide). r.channel) e.receivers → is_live (receiver_in channel e.receivers) ≡ true → counted open_of_side (old_receiver channel e) ≡ 34
+pub old_open : (channel : List ℕ) (e : ChannelEnds) → AreByName (λ (r : ReceiverSide). r.channel) e.receivers → is_live (receiver_in channel e.receivers) ≡ true → counted (λ (r : ReceiverSide). session_bytes r.hardened.closed) (old_receiver channel e) ≡ 34
 old_open channel e w live =
-    ap (λ (o : Option ReceiverSide). counted open_of_side o) (present (λ (r : ReceiverSide). r.channel) channel e.receivers w)
+    ap (λ (o : Option ReceiverSide). counted (λ (r : ReceiverSide). session_bytes r.hardened.closed) o) (present (λ (r : ReceiverSide). r.channel) channel e.receivers w)
     ∙ open_in (find (λ (r : ReceiverSide). bytes_eq channel r.channel) e.receivers) (ap is_live (sym (receiver_found channel e.receivers)) ∙ live)
 
 most_open : (b : Bool) → session_bytes b ≤ 34
@@ -157,9 +148,9 @@ pub live_found : (channel : List ℕ) (rs : List ReceiverSide) → is_live (rece
 live_found channel rs live none = live_there (find (λ (r : ReceiverSide). bytes_eq channel r.channel) rs) (ap is_live (sym (receiver_found channel rs)) ∙ live) none
 
 -- so much is set aside for a session that is open
-pub closing_spare : (side : ReceiverSide) (e : ChannelEnds) (spare : ℕ) → EndsReady e spare → side.hardened.closed ≡ true → 34 ≤ counted open_of_side (old_receiver side.channel e) → 34 ≤ spare
+pub closing_spare : (side : ReceiverSide) (e : ChannelEnds) (spare : ℕ) → EndsReady e spare → side.hardened.closed ≡ true → 34 ≤ counted (λ (r : ReceiverSide). session_bytes r.hardened.closed) (old_receiver side.channel e) → 34 ≤ spare
 closing_spare side e spare w closed had =
-    let s = set_summed (λ (r : ReceiverSide). r.channel) side e.receivers open_of_side in
+    let s = set_summed (λ (r : ReceiverSide). r.channel) side e.receivers (λ (r : ReceiverSide). session_bytes r.hardened.closed) in
     let none = ap session_bytes closed in
     let a = w.log in
     omega (arith, s, a, none, had)
@@ -172,8 +163,8 @@ need_of (Some d) = refl
 pub sender_gone : (had : Bool) (side : SenderSide) (channel : List ℕ) (e : ChannelEnds) (spare : ℕ) → EndsReady e spare → side.channel ≡ channel → side.hardened.in_doubt ≡ None → had ≡ is_some (sender_or (sender_in channel e.senders)).in_doubt
     → (drawn_need had ≤ spare) × EndsReady (with_senders (set_sender side e.senders) e) (spare - drawn_need had)
 sender_gone had side channel e spare w named none is =
-    let s = set_summed (λ (s : SenderSide). s.channel) side e.senders doubt_of_side in
-    let r = set_summed (λ (s : SenderSide). s.channel) side e.senders rows_of_side in
+    let s = set_summed (λ (s : SenderSide). s.channel) side e.senders (λ (s : SenderSide). doubt_bytes s.hardened.in_doubt) in
+    let r = set_summed (λ (s : SenderSide). s.channel) side e.senders (λ (s : SenderSide). length (listed s.hardened.in_doubt)) in
     let here = ap doubt_bytes none in
     let gone = ap (λ (o : Option InDoubt). length (listed o)) none in
     let c = old_doubt side.channel e w.senders ∙ ap (λ (n : List ℕ). doubt_bytes (sender_or (sender_in n e.senders)).in_doubt) named ∙ need_of (sender_or (sender_in channel e.senders)).in_doubt ∙ ap drawn_need (sym is) in
