@@ -55,8 +55,8 @@ write_receiver-requires-clause-ends g c =
     subst (λ (q : PartsValue). EndsReady (with_receivers (set_receiver side q.ends.receivers) q.ends) q.log.spare) (sym c.draw.ensures)
     (receiver_closed side x.ends x.log.spare w (ap (λ (k : ReceiverSide). k.hardened.closed) is ∙ c.requires.closed) (omega (arith, had)))
 
-pub invariant_of-core-in-Err-write_receiver : goal.invariant_of-core-in-Err-write_receiver
-invariant_of-core-in-Err-write_receiver g c =
+pub invariant_of-core-in-Err : goal.invariant_of-core-in-Err
+invariant_of-core-in-Err g c =
     let v = c.core.view_is ∙ c.begin_call.ensures in
     let plain = ap (λ (w : CoreValue). w.plain) v in
     let x : PartsValue = c.core.inside.parts in
@@ -78,13 +78,13 @@ invariant_of-core-in-Err-write_receiver g c =
     let held = ap (λ (q : PartsValue). q.log.reserved) c.draw.ensures in
     let enough = (c.core.invariant.up up).room in
     let ends = ap (λ (q : PartsValue). q.ends.receivers) c.draw.ensures in
-    let some = not_wanted (Option ReceiverSide) (AreByName (λ (r : ReceiverSide). r.channel) y.ends.receivers → find (λ (r : ReceiverSide). bytes_eq side.channel r.channel) y.ends.receivers ≡ None) (5 + length bytes) y c.in-Err-write_receiver.unwritten
-    c.in-Err-write_receiver.ensures.lacks (omega (arith, room, held, enough, c.requires.small))
+    let some = not_wanted (Option ReceiverSide) (AreByName (λ (r : ReceiverSide). r.channel) y.ends.receivers → find (λ (r : ReceiverSide). bytes_eq side.channel r.channel) y.ends.receivers ≡ None) (5 + length bytes) y c.in-Err.unwritten
+    c.in-Err.ensures.lacks (omega (arith, room, held, enough, c.requires.small))
     (λ none. live_found side.channel y.ends.receivers (ap (λ (rs : List ReceiverSide). is_live (receiver_in side.channel rs)) ends ∙ live) (none (subst (λ (rs : List ReceiverSide). AreByName (λ (r : ReceiverSide). r.channel) rs) (sym ends) w.receivers))) in
-    tied_after c.in-Err-write_receiver.unwritten x y z (writes.Hardened channel note) (note_record channel note) bytes e m (λ k. absurd (some k)) c.requires.bytes c.requires.size c.in-Err-write_receiver.ensures.written c.core.invariant
+    tied_after c.in-Err.unwritten x y z (writes.Hardened channel note) (note_record channel note) bytes e m (λ k. absurd (some k)) c.requires.bytes c.requires.size c.in-Err.ensures.written c.core.invariant
 
-pub returns-in-Err-write_receiver-clause-wants : goal.returns-in-Err-write_receiver-clause-wants
-returns-in-Err-write_receiver-clause-wants g c =
+pub returns-in-Err-clause-wants : goal.returns-in-Err-clause-wants
+returns-in-Err-clause-wants g c =
     let v = c.core.view_is ∙ c.begin_call.ensures in
     let plain = ap (λ (w : CoreValue). w.plain) v in
     let x : PartsValue = c.core.inside.parts in
@@ -106,13 +106,13 @@ returns-in-Err-write_receiver-clause-wants g c =
     let held = ap (λ (q : PartsValue). q.log.reserved) c.draw.ensures in
     let enough = (c.core.invariant.up up).room in
     let ends = ap (λ (q : PartsValue). q.ends.receivers) c.draw.ensures in
-    let some = not_wanted (Option ReceiverSide) (AreByName (λ (r : ReceiverSide). r.channel) y.ends.receivers → find (λ (r : ReceiverSide). bytes_eq side.channel r.channel) y.ends.receivers ≡ None) (5 + length bytes) y c.in-Err-write_receiver.unwritten
-    c.in-Err-write_receiver.ensures.lacks (omega (arith, room, held, enough, c.requires.small))
+    let some = not_wanted (Option ReceiverSide) (AreByName (λ (r : ReceiverSide). r.channel) y.ends.receivers → find (λ (r : ReceiverSide). bytes_eq side.channel r.channel) y.ends.receivers ≡ None) (5 + length bytes) y c.in-Err.unwritten
+    c.in-Err.ensures.lacks (omega (arith, room, held, enough, c.requires.small))
     (λ none. live_found side.channel y.ends.receivers (ap (λ (rs : List ReceiverSide). is_live (receiver_in side.channel rs)) ends ∙ live) (none (subst (λ (rs : List ReceiverSide). AreByName (λ (r : ReceiverSide). r.channel) rs) (sym ends) w.receivers))) in
-    wants_none c.in-Err-write_receiver.unwritten c.agent_of-agent.result c.agent_of-agent.ensures some
+    wants_none c.in-Err.unwritten c.agent_of-agent.result c.agent_of-agent.ensures some
 
-pub returns-in-Err-write_receiver-clause-meets : goal.returns-in-Err-write_receiver-clause-meets
-returns-in-Err-write_receiver-clause-meets g c =
+pub returns-in-Err-clause-meets : goal.returns-in-Err-clause-meets
+returns-in-Err-clause-meets g c =
     let v = c.core.view_is ∙ c.begin_call.ensures in
     let plain = ap (λ (w : CoreValue). w.plain) v in
     let x : PartsValue = c.core.inside.parts in
@@ -130,11 +130,11 @@ returns-in-Err-write_receiver-clause-meets g c =
     let live : is_live (receiver_in side.channel x.ends.receivers) ≡ true = ap (λ (n : List ℕ). is_live (receiver_in n x.ends.receivers)) named ∙ ap (λ (p : Plain). is_live (receiver_data channel p)) plain ∙ c.requires.live in
     let e = with_receivers (set_receiver side y.ends.receivers) y.ends in
     let m = subst (IsAside x) (sym c.draw.ensures) (drawn_aside 34 x) in
-    hardening_ends c.in-Err-write_receiver.unwritten (manager_of c.args.core.now) x y z c.core.inside.effects.dids channel note (SetReceiver channel side.hardened) bytes e c.agent_of-agent.result c.stop_of-stopped.result
-    c.agent_of-agent.ensures c.stop_of-stopped.ensures up m c.requires.bytes c.requires.size c.in-Err-write_receiver.ensures.written plain part (ap (λ (k : CoreValue). k.faults) v) (ap (λ (k : CoreValue). k.delta) v)
+    hardening_ends c.in-Err.unwritten (manager_of c.args.core.now) x y z c.core.inside.effects.dids channel note (SetReceiver channel side.hardened) bytes e c.agent_of-agent.result c.stop_of-stopped.result
+    c.agent_of-agent.ensures c.stop_of-stopped.ensures up m c.requires.bytes c.requires.size c.in-Err.ensures.written plain part (ap (λ (k : CoreValue). k.faults) v) (ap (λ (k : CoreValue). k.delta) v)
 
-pub returns-in-Err-write_receiver-clause-told : goal.returns-in-Err-write_receiver-clause-told
-returns-in-Err-write_receiver-clause-told g c =
+pub returns-in-Err-clause-told : goal.returns-in-Err-clause-told
+returns-in-Err-clause-told g c =
     let v = c.core.view_is ∙ c.begin_call.ensures in
     let plain = ap (λ (w : CoreValue). w.plain) v in
     let x : PartsValue = c.core.inside.parts in
@@ -152,8 +152,8 @@ returns-in-Err-write_receiver-clause-told g c =
     let live : is_live (receiver_in side.channel x.ends.receivers) ≡ true = ap (λ (n : List ℕ). is_live (receiver_in n x.ends.receivers)) named ∙ ap (λ (p : Plain). is_live (receiver_data channel p)) plain ∙ c.requires.live in
     let e = with_receivers (set_receiver side y.ends.receivers) y.ends in
     let m = subst (IsAside x) (sym c.draw.ensures) (drawn_aside 34 x) in
-    hardening_told c.in-Err-write_receiver.unwritten c.args.core.now _ x y z channel note (SetReceiver channel side.hardened) bytes e c.agent_of-agent.result
-    c.agent_of-agent.ensures up m c.requires.bytes c.requires.size c.in-Err-write_receiver.ensures.written part plain (ap (λ (k : CoreValue). k.log) v) refl refl
+    hardening_told c.in-Err.unwritten c.args.core.now _ x y z channel note (SetReceiver channel side.hardened) bytes e c.agent_of-agent.result
+    c.agent_of-agent.ensures up m c.requires.bytes c.requires.size c.in-Err.ensures.written part plain (ap (λ (k : CoreValue). k.log) v) refl refl
 
 pub tell-requires : goal.tell-requires
 tell-requires g c =
@@ -174,7 +174,7 @@ tell-requires g c =
     let live : is_live (receiver_in side.channel x.ends.receivers) ≡ true = ap (λ (n : List ℕ). is_live (receiver_in n x.ends.receivers)) named ∙ ap (λ (p : Plain). is_live (receiver_data channel p)) plain ∙ c.requires.live in
     let e = with_receivers (set_receiver side y.ends.receivers) y.ends in
     let m = subst (IsAside x) (sym c.draw.ensures) (drawn_aside 34 x) in
-    let before = ap live_need c.in-Ok-write_receiver.ensures.written.0 in
+    let before = ap live_need c.in-Ok.ensures.written.0 in
     let ends = ap (λ (q : PartsValue). live_need (old_receiver side.channel q.ends)) c.draw.ensures in
     let one = old_told side.channel x.ends w.receivers live in
     let room = c.room_of.ensures.room in
@@ -199,7 +199,7 @@ invariant_of-core-2 g c =
     let live : is_live (receiver_in side.channel x.ends.receivers) ≡ true = ap (λ (n : List ℕ). is_live (receiver_in n x.ends.receivers)) named ∙ ap (λ (p : Plain). is_live (receiver_data channel p)) plain ∙ c.requires.live in
     let e = with_receivers (set_receiver side y.ends.receivers) y.ends in
     let m = subst (IsAside x) (sym c.draw.ensures) (drawn_aside 34 x) in
-    hardened_tied bytes e x y z m c.in-Ok-write_receiver.ensures.written.1 c.core.invariant
+    hardened_tied bytes e x y z m c.in-Ok.ensures.written.1 c.core.invariant
 
 pub returns-clause-meets : goal.returns-clause-meets
 returns-clause-meets g c =
@@ -220,7 +220,7 @@ returns-clause-meets g c =
     let live : is_live (receiver_in side.channel x.ends.receivers) ≡ true = ap (λ (n : List ℕ). is_live (receiver_in n x.ends.receivers)) named ∙ ap (λ (p : Plain). is_live (receiver_data channel p)) plain ∙ c.requires.live in
     let e = with_receivers (set_receiver side y.ends.receivers) y.ends in
     let m = subst (IsAside x) (sym c.draw.ensures) (drawn_aside 34 x) in
-    let k = c.in-Ok-write_receiver.ensures.written.1 in
+    let k = c.in-Ok.ensures.written.1 in
     let armed : y.log.armed ≡ c.args.core.now.plain.log.armed = ap (λ (q : PartsValue). q.log.armed) m.same ∙ ap (λ (p : Plain). p.log.armed) plain in
     let faults : y.log.faults ≡ c.args.core.now.faults = ap (λ (q : PartsValue). q.log.faults) m.same ∙ ap (λ (q : CoreValue). q.faults) v in
     let still : mode_is_up y.mode ≡ true = ap (λ (q : PartsValue). mode_is_up q.mode) m.same ∙ up in
@@ -252,4 +252,4 @@ returns-clause-told g c =
     let m = subst (IsAside x) (sym c.draw.ensures) (drawn_aside 34 x) in
     let r = note_record channel note in
     hardened_wrote channel note (SetReceiver channel side.hardened) c.args.core.now.plain c.args.core.now.log _ part c.requires.size.1
-    (hardened_bodies r bytes e y z c.requires.bytes c.in-Ok-write_receiver.ensures.written.1 ∙ ap (behind_record (Some r)) (aside_bodies x y m ∙ ap (λ (k : CoreValue). k.log) v))
+    (hardened_bodies r bytes e y z c.requires.bytes c.in-Ok.ensures.written.1 ∙ ap (behind_record (Some r)) (aside_bodies x y m ∙ ap (λ (k : CoreValue). k.log) v))
