@@ -492,8 +492,8 @@ in_room v new (Do reply parts) (Err agent_stops.Cut) w m = m
 
 -- the session that a note closes is open
 live_of : (session : ℕ) (o : Option ReceiverData) → 0 < session → session ≡ (receiver_or o).session → (receiver_or o).closed ≡ false → is_live o ≡ true
-live_of session None some is open = absurd (omega (arith, some, is))
-live_of session (Some d) some is open = ap not open
+live_of session None some is still = absurd (omega (arith, some, is))
+live_of session (Some d) some is still = ap not still
 
 pub closed_live : (channel : List ℕ) (session : ℕ) (p : Plain) → CanHarden channel (notes.Closed session) p → is_live (receiver_data channel p) ≡ true
 closed_live channel session p can = live_of session (receiver_data channel p) can.0 can.1 can.2
