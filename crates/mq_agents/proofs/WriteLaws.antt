@@ -492,8 +492,8 @@ in_room v new (Do reply parts) (Err agent_stops.Cut) w m = m
 
 -- the session that a note closes is open
 live_of : (session : ℕ) (o : Option ReceiverData) → 0 < session → session ≡ (receiver_or o).session → (receiver_or o).closed ≡ false → is_live o ≡ true
-live_of session None some is still = absurd (omega (arith, some, is))
-live_of session (Some d) some is still = ap not still
+live_of session None some is shut = absurd (omega (arith, some, is))
+live_of session (Some d) some is shut = ap not shut
 
 pub closed_live : (channel : List ℕ) (session : ℕ) (p : Plain) → CanHarden channel (notes.Closed session) p → is_live (receiver_data channel p) ≡ true
 closed_live channel session p can = live_of session (receiver_data channel p) can.0 can.1 can.2
@@ -503,10 +503,10 @@ stopped_agent_some : (stop : Stop) → WantsNone {T = Unit {0}} (Err (stopped_ag
 stopped_agent_some stops.Cut = tt
 stopped_agent_some stops.Disk = tt
 
-pub not_wanted : {T : Type 0} (absent : Type 0) (n : ℕ) (x : PartsValue) (u : Unwritten) → Lacks {T = T} absent n x (Err u) → x.log.reserved + n ≤ x.log.room → (absent → ⊥) → u ≡ unwritten.NoMemory → ⊥
-not_wanted absent n x unwritten.NoMemory (inl short) room there e = absurd (omega (arith, short, room))
-not_wanted absent n x unwritten.NoMemory (inr none) room there e = there none
-not_wanted absent n x (unwritten.Stopped stop) l room there e = absurd cc
+pub not_wanted : (T : Type 0) (absent : Type 0) (n : ℕ) (x : PartsValue) (u : Unwritten) → Lacks {T = T} absent n x (Err u) → x.log.reserved + n ≤ x.log.room → (absent → ⊥) → u ≡ unwritten.NoMemory → ⊥
+not_wanted T absent n x unwritten.NoMemory (inl short) room there e = absurd (omega (arith, short, room))
+not_wanted T absent n x unwritten.NoMemory (inr none) room there e = there none
+not_wanted T absent n x (unwritten.Stopped stop) l room there e = absurd cc
 
 pub wants_none : (u : Unwritten) (agent : AgentStop) → agent ≡ agent_of u → (u ≡ unwritten.NoMemory → ⊥) → WantsNone {T = Unit {0}} (Err agent)
 wants_none unwritten.NoMemory agent is not_none = absurd (not_none refl)

@@ -210,9 +210,10 @@ pub(crate) fn aside_log<D: Disk>(parts: &mut Parts<D>, bytes: u64) -> Result<(),
     ensures spare { OnOk result (parts.new.log.spare ≡ parts.old.log.spare + bytes) }
 {
     match parts.log.set_aside(bytes) {
-        Ok(()) => Ok(()),
-        Err(NoMemory) => Err(NoMemory),
+        Ok(()) => {}
+        Err(NoMemory) => return Err(NoMemory),
     }
+    Ok(())
 }
 
 /// Whether the session of a channel's receiver is open.

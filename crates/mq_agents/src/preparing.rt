@@ -166,9 +166,10 @@ fn aside_rows<D: Disk>(parts: &mut Parts<D>, count: usize) -> Result<(), NoMemor
     ensures room { OnOk result (parts.new.ends.rows.room ≡ parts.old.ends.rows.room + count) }
 {
     match parts.ends.rows.set_aside(count) {
-        Ok(()) => Ok(()),
-        Err(NoMemory) => Err(NoMemory),
+        Ok(()) => {}
+        Err(NoMemory) => return Err(NoMemory),
     }
+    Ok(())
 }
 
 /// The batch of a channel is no more. It takes no memory.

@@ -78,7 +78,7 @@ invariant_of-core-in-Err-write_receiver g c =
     let held = ap (λ (q : PartsValue). q.log.reserved) c.draw.ensures in
     let enough = (c.core.invariant.up up).room in
     let ends = ap (λ (q : PartsValue). q.ends.receivers) c.draw.ensures in
-    let some = not_wanted {T = Option ReceiverSide} (AreByName (λ (r : ReceiverSide). r.channel) y.ends.receivers → find (λ (r : ReceiverSide). bytes_eq side.channel r.channel) y.ends.receivers ≡ None) (5 + length bytes) y c.in-Err-write_receiver.unwritten
+    let some = not_wanted (Option ReceiverSide) (AreByName (λ (r : ReceiverSide). r.channel) y.ends.receivers → find (λ (r : ReceiverSide). bytes_eq side.channel r.channel) y.ends.receivers ≡ None) (5 + length bytes) y c.in-Err-write_receiver.unwritten
     c.in-Err-write_receiver.ensures.lacks (omega (arith, room, held, enough, c.requires.small))
     (λ none. live_found side.channel y.ends.receivers (ap (λ (rs : List ReceiverSide). is_live (receiver_in side.channel rs)) ends ∙ live) (none (subst (λ (rs : List ReceiverSide). AreByName (λ (r : ReceiverSide). r.channel) rs) (sym ends) w.receivers))) in
     tied_after c.in-Err-write_receiver.unwritten x y z (writes.Hardened channel note) (note_record channel note) bytes e m (λ k. absurd (some k)) c.requires.bytes c.requires.size c.in-Err-write_receiver.ensures.written c.core.invariant
@@ -106,7 +106,7 @@ returns-in-Err-write_receiver-clause-wants g c =
     let held = ap (λ (q : PartsValue). q.log.reserved) c.draw.ensures in
     let enough = (c.core.invariant.up up).room in
     let ends = ap (λ (q : PartsValue). q.ends.receivers) c.draw.ensures in
-    let some = not_wanted {T = Option ReceiverSide} (AreByName (λ (r : ReceiverSide). r.channel) y.ends.receivers → find (λ (r : ReceiverSide). bytes_eq side.channel r.channel) y.ends.receivers ≡ None) (5 + length bytes) y c.in-Err-write_receiver.unwritten
+    let some = not_wanted (Option ReceiverSide) (AreByName (λ (r : ReceiverSide). r.channel) y.ends.receivers → find (λ (r : ReceiverSide). bytes_eq side.channel r.channel) y.ends.receivers ≡ None) (5 + length bytes) y c.in-Err-write_receiver.unwritten
     c.in-Err-write_receiver.ensures.lacks (omega (arith, room, held, enough, c.requires.small))
     (λ none. live_found side.channel y.ends.receivers (ap (λ (rs : List ReceiverSide). is_live (receiver_in side.channel rs)) ends ∙ live) (none (subst (λ (rs : List ReceiverSide). AreByName (λ (r : ReceiverSide). r.channel) rs) (sym ends) w.receivers))) in
     wants_none c.in-Err-write_receiver.unwritten c.agent_of-agent.result c.agent_of-agent.ensures some

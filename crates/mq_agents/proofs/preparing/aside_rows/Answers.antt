@@ -8,9 +8,9 @@ use Rattle.mq_agents.proofs.preparing.aside_rows.Goals as goal
 put_rows : RowsKept → PartsValue → PartsValue
 put_rows k p = record p { ends = record p.ends { rows = k } }
 
-pub returns-in-Ok-clause-more : goal.returns-in-Ok-clause-more
+pub returns-clause-more : goal.returns-clause-more
 unfolding put_rows
-returns-in-Ok-clause-more g c =
+returns-clause-more g c =
     let x : PartsValue = c.args.parts.now in
     let seen = c.parts.view_is in
     let new : RowsKept = c.set_aside.new.self in
@@ -31,16 +31,16 @@ returns-in-Err-clause-more g c =
 with_rows : RowsKept → ChannelEnds → ChannelEnds
 with_rows k e = record e { rows = k }
 
-pub returns-in-Ok-clause-ends : goal.returns-in-Ok-clause-ends
+pub returns-clause-ends : goal.returns-clause-ends
 unfolding with_rows
-returns-in-Ok-clause-ends g c = ap (λ (p : PartsValue). with_rows c.set_aside.new.self p.ends) c.parts.view_is
+returns-clause-ends g c = ap (λ (p : PartsValue). with_rows c.set_aside.new.self p.ends) c.parts.view_is
 
 pub returns-in-Err-clause-ends : goal.returns-in-Err-clause-ends
 unfolding with_rows
 returns-in-Err-clause-ends g c = ap (λ (p : PartsValue). with_rows c.set_aside.new.self p.ends) c.parts.view_is
 
-pub returns-in-Ok-clause-room : goal.returns-in-Ok-clause-room
-returns-in-Ok-clause-room g c =
+pub returns-clause-room : goal.returns-clause-room
+returns-clause-room g c =
     let had = ap (λ (p : PartsValue). p.ends.rows.room) c.parts.view_is in
     let room = ap (λ (k : RowsKept). k.room) c.in-Ok.ensures.ok in
     omega (arith, had, room)
