@@ -4,9 +4,10 @@ use Rattle.std.specs.Prelude.{Option, Some, None, find, filter, not, sum_by, ◌
 use Rattle.std.specs.List.{list_any, AllByRecursion}
 use Rattle.std.specs.Str.{bytes_eq}
 use Rattle.std.proofs.lemmas.Bool.Decides.{nat_tests}
+use Rattle.std.proofs.lemmas.List.Sums.{sum_by-cons}
 use Rattle.mq_calls.specs.declared.state.Item.TheVariants.{Put, Take}
 use Rattle.mq_calls.specs.State.{Queue as StateQueue}
-use Rattle.mq_calls.specs.Words.{Ident, InDoubt, Message, comes_before, less_ident, Row, LocalQueue, Plain, Among, has_ident, same_ident, keep, kept_in, selects, queue_in, local_of, is_persistent, off_lists, puts_to, is_by_priority, condition, made_due, depth_type, apply_all}
+use Rattle.mq_calls.specs.Words.{Ident, InDoubt, Message, comes_before, less_ident, Row, LocalQueue, Plain, Among, has_ident, same_ident, keep, kept_in, selects, queue_in, local_of, is_persistent, off_list, off_lists, puts_to, is_by_priority, condition, made_due, depth_type, apply_all}
 use Rattle.mq_calls.specs.declared.state.Item.{Item}
 use Rattle.mq_calls.specs.declared.state.Connection.{Connection}
 use Rattle.mq_spec_manager.specs.Words.{placed}
@@ -249,11 +250,22 @@ off_rows i (Some d) = filter_fewer (λ (other : Ident). not (same_ident i other)
 
 off_needs : (i : Ident) (ss : List SenderSide) → sum_by (λ (s : SenderSide). doubt_bytes s.hardened.in_doubt) (off_lists i ss) ≡ sum_by (λ (s : SenderSide). doubt_bytes s.hardened.in_doubt) ss
 off_needs i [] = refl
-off_needs i (s ∷ ss) = let here = off_need i s.hardened.in_doubt in let rest = off_needs i ss in omega (arith, here, rest)
+off_needs i (s ∷ ss) =
+    let here : doubt_bytes (off_list i s).hardened.in_doubt ≡ doubt_bytes s.hardened.in_doubt = off_need i s.hardened.in_doubt in
+    let rest = off_needs i ss in
+    let new = sum_by-cons (λ (k : SenderSide). doubt_bytes k.hardened.in_doubt) (off_list i s) (off_lists i ss) in
+    let old = sum_by-cons (λ (k : SenderSide). doubt_bytes k.hardened.in_doubt) s ss in
+    new ∙ (λ j. here j + rest j) ∙ sym old
 
 off_all_rows : (i : Ident) (ss : List SenderSide) → sum_by (λ (s : SenderSide). length (listed s.hardened.in_doubt)) (off_lists i ss) ≤ sum_by (λ (s : SenderSide). length (listed s.hardened.in_doubt)) ss
 off_all_rows i [] = omega arith
-off_all_rows i (s ∷ ss) = let here = off_rows i s.hardened.in_doubt in let rest = off_all_rows i ss in omega (arith, here, rest)
+off_all_rows i (s ∷ ss) =
+    let here : length (listed (off_list i s).hardened.in_doubt) ≤ length (listed s.hardened.in_doubt) = off_rows i s.hardened.in_doubt in
+    let rest = off_all_rows i ss in
+    let new : sum_by (λ (k : SenderSide). length (listed k.hardened.in_doubt)) (off_lists i (s ∷ ss)) ≡ length (listed (off_list i s).hardened.in_doubt) + sum_by (λ (k : SenderSide). length (listed k.hardened.in_doubt)) (off_lists i ss)
+        = sum_by-cons (λ (k : SenderSide). length (listed k.hardened.in_doubt)) (off_list i s) (off_lists i ss) in
+    let old = sum_by-cons (λ (k : SenderSide). length (listed k.hardened.in_doubt)) s ss in
+    omega (arith, here, rest, new, old)
 
 off_mem : (i : Ident) (name : List ℕ) (ss : List SenderSide) (t : SenderSide) → ((s : SenderSide) → Mem s ss → comes_before name s.channel ≡ true) → Mem t (off_lists i ss) → comes_before name t.channel ≡ true
 off_mem i name [] t h m = absurd m
