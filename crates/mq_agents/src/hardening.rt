@@ -187,7 +187,11 @@ fn kept_closed<D: Disk>(parts: &Parts<D>, side: ReceiverSide) -> KeptReceiver
 /// # Errors
 ///
 /// No memory; nothing has changed but room.
-pub fn aside_for<D: Disk>(parts: &mut Parts<D>, channel: &ChName, closed: bool) -> Result<(), NoMemory>
+pub fn aside_for<D: Disk>(
+    parts: &mut Parts<D>,
+    channel: &ChName,
+    closed: bool,
+) -> Result<(), NoMemory>
     ensures more { HasMoreRoom parts.old parts.new }
     ensures ready { OnOk result (EndsReady parts.old.ends parts.old.log.spare → (side : Receiver) → side.channel ≡ channel.now → side.hardened.closed ≡ closed → EndsReady (with_receivers (set_receiver side parts.new.ends.receivers) parts.new.ends) parts.new.log.spare) }
 {

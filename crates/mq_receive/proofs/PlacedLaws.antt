@@ -263,7 +263,7 @@ off_all_rows i (s ∷ ss) =
     let here : length (listed (off_list i s).hardened.in_doubt) ≤ length (listed s.hardened.in_doubt) = off_rows i s.hardened.in_doubt in
     let rest = off_all_rows i ss in
     let new : sum_by (λ (k : SenderSide). length (listed k.hardened.in_doubt)) (off_lists i (s ∷ ss)) ≡ length (listed (off_list i s).hardened.in_doubt) + sum_by (λ (k : SenderSide). length (listed k.hardened.in_doubt)) (off_lists i ss)
-        = sum_by-cons (λ (k : SenderSide). length (listed k.hardened.in_doubt)) (off_list i s) (off_lists i ss) in
+    = sum_by-cons (λ (k : SenderSide). length (listed k.hardened.in_doubt)) (off_list i s) (off_lists i ss) in
     let old = sum_by-cons (λ (k : SenderSide). length (listed k.hardened.in_doubt)) s ss in
     omega (arith, here, rest, new, old)
 

@@ -68,17 +68,18 @@ returns-clause-written g c =
     let failed = ap (λ (l : LogState). l.faults) log in
     let a = c.in-Ok-append_forced.ensures in
     let sides = c.in-Ok-swap_side.ensures.ok ∙ ap (λ (p : PartsValue). set_receiver c.args.side p.ends.receivers) seen in (
-    c.in-Ok-swap_side.ensures.before ∙ ap (λ (p : PartsValue). standing (λ (r : ReceiverSide). r.channel) c.args.side.channel p.ends.receivers) seen,
-    record {
-      same = λ i. record (seen i) { ends = put_in (sides i) (seen i).ends; log = new };
-      log = subst (λ (l : LogState). Appended l c.args.bytes.now (Ok tt) new) log a.appended;
-      calls = subst (λ (l : LogState). Stops l.armed (Ok tt) new.armed) log a.ends;
-      room = omega (arith, a.room, c.room.ensures.room, had);
-      enough = omega (arith, a.room, c.in-Ok.ensures.ok, kept);
-      ends = c.requires.ends;
-      later = omega (arith, failed, a.later);
-      disk = λ d. subst (λ (l : LogState). Rose l.faults new.faults) log (a.disk d);
-    })
+      c.in-Ok-swap_side.ensures.before ∙ ap (λ (p : PartsValue). standing (λ (r : ReceiverSide). r.channel) c.args.side.channel p.ends.receivers) seen,
+      record {
+        same = λ i. record (seen i) { ends = put_in (sides i) (seen i).ends; log = new };
+        log = subst (λ (l : LogState). Appended l c.args.bytes.now (Ok tt) new) log a.appended;
+        calls = subst (λ (l : LogState). Stops l.armed (Ok tt) new.armed) log a.ends;
+        room = omega (arith, a.room, c.room.ensures.room, had);
+        enough = omega (arith, a.room, c.in-Ok.ensures.ok, kept);
+        ends = c.requires.ends;
+        later = omega (arith, failed, a.later);
+        disk = λ d. subst (λ (l : LogState). Rose l.faults new.faults) log (a.disk d);
+      },
+    )
 
 pub returns-in-Err-clause-lacks : goal.returns-in-Err-clause-lacks
 returns-in-Err-clause-lacks g c =
