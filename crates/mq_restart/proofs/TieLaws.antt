@@ -232,10 +232,10 @@ none_pending name d (s ∷ ss) = by (bytes_eq name s.name) (none_pending name d 
 
 -- ---- all that ties them
 
-pub begun_tied : (number : ℕ) (name : List ℕ) (moment max : ℕ) (i : Image) (b : Built) (log : LogState) → IsBuilt i b → IsImage i → AreKnown number i → IsFresh max log → max < 2 ^ 32 → moment ≤ last_moment
+pub begun_tied : (number : ℕ) (name : List ℕ) (moment max : ℕ) (i : Image) (b : Built) (log : LogState) → IsBuilt i b → IsImage i → AreKnown number i → IsFresh max log → ends_need (begun_ends b) ≤ log.spare → max < 2 ^ 32 → moment ≤ last_moment
     → Tied (begun_parts number name moment b log)
-begun_tied number name moment max i b log h image known fresh small late = record {
-  up = λ u. record { live = fresh.live; settled = fresh.settled; room = let f = fresh.free in omega (arith, f); body = let f = fresh.free in omega (arith, f) };
+begun_tied number name moment max i b log h image known fresh aside small late = record {
+  up = λ u. record { live = fresh.live; settled = fresh.settled; ends = record { log = aside; rows = rows_there }; room = let f = fresh.free in omega (arith, f); body = let f = fresh.free in omega (arith, f) };
   reserved = λ u. fresh.free;
   within = λ u. let f = fresh.free in omega (arith, f);
   queues = record {
@@ -260,3 +260,6 @@ begun_tied number name moment max i b log h image known fresh small late = recor
   max = let m = fresh.most in omega (arith, m, small);
   moment = late;
 }
+  where
+    rows_there : rows_need (begun_ends b) ≤ b.rows.room
+    rows_there = let e = ap (λ (ss : List SenderSide). sum_by (λ (s : SenderSide). doubt_rows s.hardened.in_doubt) ss) h.senders in let k = h.rows in omega (arith, e, k)
