@@ -27,7 +27,7 @@ settled_times false by i q = omega (arith, times_freed i (HeldBy by) q)
 
 pub settled_tied : (commit : Bool) (by : Holder) (x : PartsValue) → Tied x → Tied (rows_settled commit by x)
 unfolding with_rows
-settled_tied commit by x t = tied_rows (settled_in commit by) (settled_named commit by) (settled_times commit by) x.ends x t
+settled_tied commit by x t = tied_rows (settled_in commit by) (settled_named commit by) (settled_times commit by) x.ends x refl t
 
 with_queues : Plain → List StateQueue → Plain
 with_queues p qs = record p { queues = qs }

@@ -80,7 +80,7 @@ hardened_tied bytes e x y w t =
     let reserved = ap (λ (l : LogState). l.reserved) w.log in
     let most = ap (λ (l : LogState). l.max) w.log in
     subst Tied (sym w.same) (record {
-      up = λ u. let old = t.up u in record { live = live ∙ old.live; settled = settled ∙ old.settled; room = omega (arith, reserved, w.enough); body = omega (arith, reserved, old.body) };
+      up = λ u. let old = t.up u in record { live = live ∙ old.live; settled = settled ∙ old.settled; spare = let a = ap (λ (l : LogState). l.spare) w.log in omega (arith, a, w.spare); room = omega (arith, reserved, w.enough); body = omega (arith, reserved, old.body) };
       reserved = λ u. reserved ∙ t.reserved u;
       within = λ u. let w = t.within u in omega (arith, reserved, most, w);
       queues = record { lanes = t.queues.lanes; pending = t.queues.pending };
@@ -175,7 +175,7 @@ forced_tied r x y z h f t =
     let before = ap (λ (p : PartsValue). p.log.reserved) h.same in
     let most = ap (λ (l : LogState). l.max) f.log in
     subst Tied (sym f.same) (record {
-      up = λ u. let old = s.up u in record { live = live ∙ old.live; settled = settled ∙ old.settled; room = omega (arith, reserved, before, h.log, f.room); body = omega (arith, reserved, old.body, f.body) };
+      up = λ u. let old = s.up u in record { live = live ∙ old.live; settled = settled ∙ old.settled; spare = let a = ap (λ (l : LogState). l.spare) f.log in let b = old.spare in omega (arith, a, b); room = omega (arith, reserved, before, h.log, f.room); body = omega (arith, reserved, old.body, f.body) };
       reserved = λ u. reserved ∙ s.reserved u;
       within = λ u. let w = s.within u in omega (arith, reserved, most, w);
       queues = record { lanes = s.queues.lanes; pending = s.queues.pending };

@@ -18,6 +18,7 @@ use Rattle.mq_log.specs.State.{Appended}
 use Rattle.mq_log.specs.Force.{Stops}
 use Rattle.mq_core.specs.declared.parts.ChannelEnds.{ChannelEnds}
 use Rattle.mq_core.specs.Views.{PartsValue}
+use Rattle.mq_core.specs.Ties.{ends_need}
 use Rattle.mq_core.specs.Writes.{FitsRecord}
 use Rattle.mq_core.specs.declared.parts.StoppedWrite.{StoppedWrite}
 use Rattle.mq_core.specs.Forced.{HasMoreRoom, downed}
@@ -43,6 +44,7 @@ pub record IsWritten (bytes : List ℕ) (e : ChannelEnds) (x : PartsValue) (resu
   pub calls : Stops x.log.armed result y.log.armed
   pub room : OnOk result (x.log.room ≤ y.log.room + (5 + length bytes))
   pub enough : OnOk result (x.log.reserved ≤ y.log.room)
+  pub spare : OnOk result (ends_need e ≤ x.log.spare)
   pub later : x.log.faults ≤ y.log.faults
   pub disk : IsErrOf result stops.Disk → Rose x.log.faults y.log.faults
 

@@ -48,6 +48,7 @@ pub record OnWay (queue : List ℕ) (m : Message) (x w : PartsValue) : Type 0 wh
   pub same : w ≡ record (with_states (change_state queue expecting x.queues.states) x) { idents = x.idents + 1; log = w.log; body = w.body }
   pub live : w.log.live ≡ x.log.live
   pub settled : w.log.pending ≡ x.log.pending
+  pub spare : w.log.spare ≡ x.log.spare
   pub reserved : w.log.reserved ≡ x.log.reserved
   pub max : w.log.max ≡ x.log.max
   pub room : mode_is_up x.mode ≡ true → x.log.reserved ≤ w.log.room
@@ -86,7 +87,7 @@ tied_on_way queue m x w there o t =
     let found = kept_queue queue x t there in
     let same = queues_same queue expecting (λ s. refl) x.queues.states in
     subst (TiedBut (Put queue m ∷ [])) (sym o.same) (record {
-      up = λ u. let old = t.up u in record { live = o.live ∙ old.live; settled = o.settled ∙ old.settled; room = let a = o.room u in omega (arith, a, o.reserved); body = let a = o.body u in omega (arith, a, o.reserved) };
+      up = λ u. let old = t.up u in record { live = o.live ∙ old.live; settled = o.settled ∙ old.settled; spare = let a = old.spare in omega (arith, a, o.spare); room = let a = o.room u in omega (arith, a, o.reserved); body = let a = o.body u in omega (arith, a, o.reserved) };
       reserved = λ u. o.reserved ∙ t.reserved u;
       within = λ u. let w = t.within u in omega (arith, o.reserved, o.max, w);
       queues = record {
@@ -175,6 +176,7 @@ way_free queue m need x y ident e t =
       same = ap (with_rest (counted_put need y).body y.log) e.same;
       live = ap (λ (l : LogState). l.live) is;
       settled = ap (λ (l : LogState). l.pending) is;
+      spare = ap (λ (l : LogState). l.spare) is;
       reserved = ap (λ (l : LogState). l.reserved) is;
       max = ap (λ (l : LogState). l.max) is;
       room = λ u. let w = (t.up u).room in omega (arith, w, e.more);
@@ -191,6 +193,7 @@ way_forced queue m n r x y z en ident e f t =
       same = ap (with_rest (counted_put n z).body z.log) f.same ∙ ap (with_rest (counted_put n z).body z.log) e.same;
       live = ap (λ (l : LogState). l.live) wrote ∙ ap (λ (l : LogState). l.live) is;
       settled = ap (λ (l : LogState). l.pending) wrote ∙ ap (λ (l : LogState). l.pending) is;
+      spare = ap (λ (l : LogState). l.spare) wrote ∙ ap (λ (l : LogState). l.spare) is;
       reserved = ap (λ (l : LogState). l.reserved) wrote ∙ ap (λ (l : LogState). l.reserved) is;
       max = ap (λ (l : LogState). l.max) wrote ∙ ap (λ (l : LogState). l.max) is;
       room = λ u. omega (arith, f.room, e.log, en);
@@ -242,7 +245,7 @@ given_up queue n x y e = record {
 -- more room leaves all tied
 pub tied_roomier : (x y : PartsValue) → HasMoreRoom x y → Tied x → Tied y
 tied_roomier x y h t = subst Tied (sym h.same) (record {
-  up = λ u. let w = t.up u in record { live = w.live; settled = w.settled; room = omega (arith, w.room, h.log); body = omega (arith, w.body, h.body) };
+  up = λ u. let w = t.up u in record { live = w.live; settled = w.settled; spare = w.spare; room = omega (arith, w.room, h.log); body = omega (arith, w.body, h.body) };
   reserved = t.reserved;
   within = t.within;
   queues = record { lanes = t.queues.lanes; pending = t.queues.pending };

@@ -11,6 +11,10 @@ use Rattle.mq_unit.specs.Forced.{CanBeForced}
 use Rattle.mq_place.specs.States.{QueueState, queues_of, state_in, CanPlace, IsNowhere}
 use Rattle.mq_core.specs.declared.parts.Mode.{Mode}
 use Rattle.mq_core.specs.declared.parts.Mode.TheVariants as modes
+use Rattle.mq_sync.specs.declared.data.InDoubt.{InDoubt}
+use Rattle.mq_calls.specs.declared.state.SenderSide.{SenderSide}
+use Rattle.mq_calls.specs.declared.state.ReceiverSide.{ReceiverSide}
+use Rattle.mq_core.specs.declared.parts.ChannelEnds.{ChannelEnds}
 use Rattle.mq_core.specs.Views.{PartsValue}
 
 abbrev pub mode_is_up : Mode → Bool
@@ -64,10 +68,24 @@ pub record SameUnits (old new : List Connection) : Type 0 where
 abbrev pub IsSeated : PartsValue → PartsValue → Type 0
 IsSeated x y = (y ≡ record x { desk = y.desk }) × SameUnits x.desk.live y.desk.live
 
--- while it is up: the log takes more, and there is memory for what the units need of it
+-- what of the log's memory is set aside for channel ends: for each unit in doubt the record that settles it, for each session that
+-- isn't closed the record that closes it, each with its length and its gate
+abbrev pub doubt_bytes : Option InDoubt → ℕ
+doubt_bytes None = 0
+doubt_bytes (Some d) = 44
+
+abbrev pub session_bytes : Bool → ℕ
+session_bytes true = 0
+session_bytes false = 34
+
+abbrev pub ends_need : ChannelEnds → ℕ
+ends_need e = sum_by (λ (s : SenderSide). doubt_bytes s.hardened.in_doubt) e.senders + sum_by (λ (r : ReceiverSide). session_bytes r.hardened.closed) e.receivers
+
+-- while it is up: the log takes more, and there is memory for what the units and the channel ends need of it
 pub record TiedUp (x : PartsValue) : Type 0 where
   pub live : x.log.live ≡ true
   pub settled : x.log.pending ≡ None
+  pub spare : ends_need x.ends ≤ x.log.spare
   pub room : x.log.reserved ≤ x.log.room
   pub body : x.log.reserved ≤ x.body.room + length x.body.bytes
 

@@ -108,6 +108,7 @@ pub record IsOnWay (landed : List Arrival) (x w : PartsValue) : Type 0 where
   pub same : w ≡ record (with_states (expected_all landed x.queues.states) x) { ends = w.ends; log = w.log; body = w.body }
   pub live : w.log.live ≡ x.log.live
   pub settled : w.log.pending ≡ x.log.pending
+  pub spare : w.log.spare ≡ x.log.spare
   pub reserved : w.log.reserved ≡ x.log.reserved
   pub max : w.log.max ≡ x.log.max
   pub room : mode_is_up x.mode ≡ true → x.log.reserved ≤ w.log.room
@@ -128,7 +129,7 @@ on_way_tied landed x w there o t =
     let kept = kept_all landed x t there in
     let same = queues_all landed x.queues.states in
     subst (TiedOnWay landed) (sym o.same) (record {
-      up = λ u. let old = t.up u in record { live = o.live ∙ old.live; settled = o.settled ∙ old.settled; room = let a = o.room u in omega (arith, a, o.reserved); body = let a = o.body u in omega (arith, a, o.reserved) };
+      up = λ u. let old = t.up u in record { live = o.live ∙ old.live; settled = o.settled ∙ old.settled; spare = let a = old.spare in omega (arith, a, o.spare); room = let a = o.room u in omega (arith, a, o.reserved); body = let a = o.body u in omega (arith, a, o.reserved) };
       reserved = λ u. o.reserved ∙ t.reserved u;
       within = λ u. let w = t.within u in omega (arith, o.reserved, o.max, w);
       queues = record {

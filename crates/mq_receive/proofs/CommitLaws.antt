@@ -58,6 +58,7 @@ on_way landed n r side x y z en e f t =
       same = ap (with_rest z.ends z.log (given_back n z).body) f.same ∙ ap (with_rest z.ends z.log (given_back n z).body) e.same;
       live = ap (λ (l : LogState). l.live) wrote ∙ ap (λ (l : LogState). l.live) is;
       settled = ap (λ (l : LogState). l.pending) wrote ∙ ap (λ (l : LogState). l.pending) is;
+      spare = ap (λ (l : LogState). l.spare) wrote ∙ ap (λ (l : LogState). l.spare) is;
       reserved = ap (λ (l : LogState). l.reserved) wrote ∙ ap (λ (l : LogState). l.reserved) is;
       max = ap (λ (l : LogState). l.max) wrote ∙ ap (λ (l : LogState). l.max) is;
       room = λ u. omega (arith, f.room, e.log, en);

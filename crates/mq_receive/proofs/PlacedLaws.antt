@@ -210,7 +210,7 @@ tied_dropped landed (Some queue) i x t =
     let f : StateQueue → StateQueue = kept_in (Among queue (i ∷ [])) in
     let times = λ (k : Ident). times_on k f (λ q. times_keep k (λ (row : Row). not (selects (Among queue (i ∷ [])) q.name row)) q.rows) x.queues.states in
     record {
-      up = λ u. let w = t.up u in record { live = w.live; settled = w.settled; room = w.room; body = w.body };
+      up = λ u. let w = t.up u in record { live = w.live; settled = w.settled; spare = w.spare; room = w.room; body = w.body };
       reserved = t.reserved;
       within = t.within;
       queues = record {
@@ -229,7 +229,7 @@ tied_dropped landed (Some queue) i x t =
 tied_undoubted : (landed : List Arrival) (b : Bool) (i : Ident) (x : PartsValue) → TiedOnWay landed x → TiedOnWay landed (undoubted_at b i x)
 tied_undoubted landed false i x t = t
 tied_undoubted landed true i x t = record {
-  up = λ u. let w = t.up u in record { live = w.live; settled = w.settled; room = w.room; body = w.body };
+  up = λ u. let w = t.up u in record { live = w.live; settled = w.settled; spare = w.spare; room = w.room; body = w.body };
   reserved = t.reserved;
   within = t.within;
   queues = record { lanes = t.queues.lanes; pending = t.queues.pending };
@@ -340,7 +340,7 @@ tied_arrived a landed x r apart t =
     let m : Message = a.message in
     let times = λ (i : Ident). times_changed queue (arrived m) (λ s. refl) i (one_if (same_ident m.ident i)) (λ s. times_insert i _ s.queue.rows) x.queues.states r.state r.is in
     record {
-      up = λ u. let w = t.up u in record { live = w.live; settled = w.settled; room = w.room; body = w.body };
+      up = λ u. let w = t.up u in record { live = w.live; settled = w.settled; spare = w.spare; room = w.room; body = w.body };
       reserved = t.reserved;
       within = t.within;
       queues = record {
@@ -372,7 +372,7 @@ tied_due true queue landed x s e t =
     let f = on_queue (made_due (depth_type (local_of queue x.defs.definitions)) x.moment) in
     let times = λ (i : Ident). times_changed queue f (λ s. refl) i 0 (λ s. omega arith) x.queues.states s e in
     record {
-      up = λ u. let w = t.up u in record { live = w.live; settled = w.settled; room = w.room; body = w.body };
+      up = λ u. let w = t.up u in record { live = w.live; settled = w.settled; spare = w.spare; room = w.room; body = w.body };
       reserved = t.reserved;
       within = t.within;
       queues = record {
