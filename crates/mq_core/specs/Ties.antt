@@ -15,6 +15,7 @@ use Rattle.mq_sync.specs.declared.data.InDoubt.{InDoubt}
 use Rattle.mq_calls.specs.declared.state.SenderSide.{SenderSide}
 use Rattle.mq_calls.specs.declared.state.ReceiverSide.{ReceiverSide}
 use Rattle.mq_core.specs.declared.parts.ChannelEnds.{ChannelEnds}
+use Rattle.mq_sides.specs.Places.{AreByName}
 use Rattle.mq_core.specs.Views.{PartsValue}
 
 abbrev pub mode_is_up : Mode → Bool
@@ -81,11 +82,27 @@ session_bytes false = 34
 abbrev pub ends_need : ChannelEnds → ℕ
 ends_need e = sum_by (λ (s : SenderSide). doubt_bytes s.hardened.in_doubt) e.senders + sum_by (λ (r : ReceiverSide). session_bytes r.hardened.closed) e.receivers
 
--- while it is up: the log takes more, and there is memory for what the units and the channel ends need of it
+-- how many rows are noted where the write that settles a unit in doubt is stopped, of all units together
+abbrev pub doubt_rows : Option InDoubt → ℕ
+doubt_rows None = 0
+doubt_rows (Some d) = length d.idents
+
+abbrev pub rows_need : ChannelEnds → ℕ
+rows_need e = sum_by (λ (s : SenderSide). doubt_rows s.hardened.in_doubt) e.senders
+
+-- Units in doubt are settled, and sessions closed, without memory: so many bytes of the log's are set aside for it, there is room
+-- for the rows that are noted, and a side is found at its name's place.
+pub record EndsReady (e : ChannelEnds) (spare : ℕ) : Type 0 where
+  pub log : ends_need e ≤ spare
+  pub rows : rows_need e ≤ e.rows.room
+  pub senders : AreByName (λ (s : SenderSide). s.channel) e.senders
+  pub receivers : AreByName (λ (r : ReceiverSide). r.channel) e.receivers
+
+-- while it is up: the log takes more, there is memory for what the units need of it, and the channel ends are ready
 pub record TiedUp (x : PartsValue) : Type 0 where
   pub live : x.log.live ≡ true
   pub settled : x.log.pending ≡ None
-  pub spare : ends_need x.ends ≤ x.log.spare
+  pub ends : EndsReady x.ends x.log.spare
   pub room : x.log.reserved ≤ x.log.room
   pub body : x.log.reserved ≤ x.body.room + length x.body.bytes
 

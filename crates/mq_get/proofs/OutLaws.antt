@@ -18,7 +18,7 @@ use Rattle.mq_scan.specs.declared.scanning.Met.{Met}
 use Rattle.mq_unit.specs.Told.{Telling}
 use Rattle.mq_core.specs.declared.parts.StoppedWrite.TheVariants as writes
 use Rattle.mq_core.specs.Views.{PartsValue, plain_of}
-use Rattle.mq_core.specs.Ties.{Tied, state_lanes, pending_at, times_in_queues, mode_is_up}
+use Rattle.mq_core.specs.Ties.{Tied, EndsReady, state_lanes, pending_at, times_in_queues, mode_is_up}
 use Rattle.mq_core.specs.Values.{CoreValue, IsRecordIn, bodies_in, behind_record}
 use Rattle.mq_core.proofs.ForceLaws.{queues_on, seen_on, times_on, times_keep, forced_view, frozen_view, tied_downed, stops_at}
 use Rattle.mq_get.specs.declared.leaving.Leaving.{Leaving}
@@ -94,7 +94,7 @@ unfolding out_by
 tied_out removes queue idents x z w room t =
     let f = kept_in (Among queue idents) in
     subst (λ (y : PartsValue). Tied (out_by queue idents y)) (sym w.same) (record {
-      up = λ u. let o = t.up u in let r = room u in record { live = w.live ∙ o.live; settled = w.settled ∙ o.settled; spare = let a = o.spare in omega (arith, a, w.spare); room = omega (arith, r, w.room, w.reserved); body = let b = o.body in omega (arith, b, w.body, w.reserved) };
+      up = λ u. let o = t.up u in let r = room u in record { live = w.live ∙ o.live; settled = w.settled ∙ o.settled; ends = subst (EndsReady x.ends) (sym w.spare) o.ends; room = omega (arith, r, w.room, w.reserved); body = let b = o.body in omega (arith, b, w.body, w.reserved) };
       reserved = λ u. w.reserved ∙ t.reserved u;
       within = λ u. let most = t.within u in omega (arith, w.reserved, w.max, most);
       queues = record {
@@ -206,7 +206,7 @@ gone_breaks why queue (m ∷ ms) by v w h = h
 -- room that is given back leaves all tied
 pub tied_back : (n : ℕ) (x : PartsValue) → (mode_is_up x.mode ≡ true → x.log.reserved + n ≤ x.body.room + length x.body.bytes) → Tied x → Tied (gave_back n x)
 tied_back n x room t = record {
-  up = λ u. let w = t.up u in let r = room u in record { live = w.live; settled = w.settled; spare = w.spare; room = w.room; body = omega (arith, r) };
+  up = λ u. let w = t.up u in let r = room u in record { live = w.live; settled = w.settled; ends = w.ends; room = w.room; body = omega (arith, r) };
   reserved = t.reserved;
   within = t.within;
   queues = record { lanes = t.queues.lanes; pending = t.queues.pending };

@@ -12,7 +12,7 @@ use Rattle.mq_calls.specs.declared.state.Item.TheVariants.{Put}
 use Rattle.mq_log.specs.State.{LogState}
 use Rattle.mq_place.specs.States.{QueueState, queues_of, state_in, change_state, on_queues, expecting, unpended}
 use Rattle.mq_core.specs.Views.{PartsValue, plain_of}
-use Rattle.mq_core.specs.Ties.{TiedBut, Tied, IsReady, HasCounts, AreCounted, mode_is_up, state_lanes, pending_at, one_if, times_in_rows, times_in_queues, times_in_units}
+use Rattle.mq_core.specs.Ties.{TiedBut, Tied, EndsReady, IsReady, HasCounts, AreCounted, mode_is_up, state_lanes, pending_at, one_if, times_in_rows, times_in_queues, times_in_units}
 use Rattle.mq_core.specs.Placing.{with_states, put_in_place}
 use Rattle.mq_core.proofs.PlaceLaws.{name_is, same_name, ready, tied_placed, placed_view, seen_kept, pending_changed}
 use Rattle.mq_core.proofs.ForceLaws.{seen_on, times_on, times_keep}
@@ -109,7 +109,7 @@ tied_on_move from i queue m row x w there found ident o t =
     let same = queues_same queue expecting (λ s. refl) x.queues.states in
     let one = there_is i (queue_in from (queues_of x.queues.states)).rows row found in
     subst (TiedBut (Put queue m ∷ [])) (sym o.same) (record {
-      up = λ u. let old = t.up u in record { live = o.live ∙ old.live; settled = o.settled ∙ old.settled; spare = let a = old.spare in omega (arith, a, o.spare); room = let a = o.room u in omega (arith, a, o.reserved); body = let a = o.body u in omega (arith, a, o.reserved) };
+      up = λ u. let old = t.up u in record { live = o.live ∙ old.live; settled = o.settled ∙ old.settled; ends = subst (EndsReady x.ends) (sym o.spare) old.ends; room = let a = o.room u in omega (arith, a, o.reserved); body = let a = o.body u in omega (arith, a, o.reserved) };
       reserved = λ u. o.reserved ∙ t.reserved u;
       within = λ u. let w = t.within u in omega (arith, o.reserved, o.max, w);
       queues = record {

@@ -64,7 +64,7 @@ times_served i from (s ∷ ss) = by (bytes_eq from s.queue.name) (times_served i
 
 pub tied_served : (from : List ℕ) (items : List Item) (x : PartsValue) → TiedBut items x → TiedBut items (served_at from x)
 tied_served from items x t = record {
-  up = λ u. let w = t.up u in record { live = w.live; settled = w.settled; spare = w.spare; room = w.room; body = w.body };
+  up = λ u. let w = t.up u in record { live = w.live; settled = w.settled; ends = w.ends; room = w.room; body = w.body };
   reserved = t.reserved;
   within = t.within;
   queues = record {
