@@ -1,6 +1,7 @@
 //! How a queue manager comes up from its log: its first start, and the call `restart`.
 #![tactic(auto)]
 
+mod aside;
 mod beginning;
 mod images;
 mod laws;
@@ -8,6 +9,7 @@ mod parts;
 mod reading;
 mod starting;
 
+pub use aside::make_room;
 pub use beginning::{Unbegun, begin};
 pub use laws::a_log_stands_behind_each_stop;
 pub use reading::{LogRead, Returned, Unraised, Unreturned};
