@@ -3,6 +3,7 @@ use Rattle.std.specs.Prelude.{◌≡◌, ℕ, ◌+◌, ◌^◌, ◌<◌, ◌≤�
 use Rattle.std.specs.List.{AllByRecursion}
 use Rattle.std.specs.Str.{bytes_eq}
 use Rattle.mq_calls.specs.Words.{Ident, Message, Row, has_ident, Queue, LocalQueue, same_ident, local_of, is_by_priority, puts_to, unit_need}
+use Rattle.mq_calls.specs.Recovery.{listed}
 use Rattle.mq_calls.specs.declared.state.Connection.{Connection}
 use Rattle.mq_calls.specs.declared.state.Item.{Item}
 use Rattle.mq_calls.specs.declared.state.Item.TheVariants.{Put, Take}
@@ -83,12 +84,8 @@ abbrev pub ends_need : ChannelEnds → ℕ
 ends_need e = sum_by (λ (s : SenderSide). doubt_bytes s.hardened.in_doubt) e.senders + sum_by (λ (r : ReceiverSide). session_bytes r.hardened.closed) e.receivers
 
 -- how many rows are noted where the write that settles a unit in doubt is stopped, of all units together
-abbrev pub doubt_rows : Option InDoubt → ℕ
-doubt_rows None = 0
-doubt_rows (Some d) = length d.idents
-
 abbrev pub rows_need : ChannelEnds → ℕ
-rows_need e = sum_by (λ (s : SenderSide). doubt_rows s.hardened.in_doubt) e.senders
+rows_need e = sum_by (λ (s : SenderSide). length (listed s.hardened.in_doubt)) e.senders
 
 -- Units in doubt are settled, and sessions closed, without memory: so many bytes of the log's are set aside for it, there is room
 -- for the rows that are noted, and a side is found at its name's place.

@@ -1,5 +1,5 @@
 -- In a list in the order of its names, what is not found at the name's place is nowhere.
-use Rattle.std.proofs.Common.{Ordering, Less, Equal, Greater, ◌≡◌, ℕ, Bool, true, false, List, [], ◌∷◌, refl, ap, sym, subst, ◌∙◌, suc, cond, ◌⊎◌, inl, inr}
+use Rattle.std.proofs.Common.{Ordering, Less, Equal, Greater, ◌≡◌, ℕ, Bool, true, false, List, [], ◌∷◌, refl, ap, sym, ◌∙◌, suc, cond, ◌⊎◌, inl, inr}
 use Rattle.std.specs.Prelude.{Option, Some, None, find, slice_get, ◌||◌}
 use Rattle.std.specs.Str.{bytes_eq}
 use Rattle.std.specs.Ordering.{is_lt, is_eq, nat_cmp, ordering_reverse}
@@ -54,6 +54,21 @@ module _ {A : Type 0} (name : A → List ℕ) (channel : List ℕ) where
 
   pub absent_there : (xs : List A) (place : ℕ) → place ≡ place_in name channel xs → is_of name channel (slice_get xs place) ≡ false → AreByName name xs → find (λ (x : A). bytes_eq channel (name x)) xs ≡ None
   absent_there xs place is e h = absent xs h (ap (λ (n : ℕ). is_of name channel (slice_get xs n)) (sym is) ∙ e)
+
+  -- what stands at the name's place
+  of_is : (o : Option A) → is_of name channel o ≡ true → of_name name channel o ≡ o
+  of_is None e = absurd cc
+  of_is (Some y) e = ap (λ (b : Bool). cond {A = Option A} b (Some y) None) e
+
+  of_not : (o : Option A) → is_of name channel o ≡ false → of_name name channel o ≡ None
+  of_not None e = refl
+  of_not (Some y) e = ap (λ (b : Bool). cond {A = Option A} b (Some y) None) e
+
+  pub stood : (xs : List A) (place : ℕ) (x : A) → place ≡ place_in name channel xs → is_of name channel (slice_get xs place) ≡ true → slice_get xs place ≡ Some x → Some x ≡ standing name channel xs
+  stood xs place x is e at = sym at ∙ sym (of_is (slice_get xs place) e) ∙ ap (λ (n : ℕ). of_name name channel (slice_get xs n)) is
+
+  pub stood_none : (xs : List A) (place : ℕ) → place ≡ place_in name channel xs → is_of name channel (slice_get xs place) ≡ false → None ≡ standing name channel xs
+  stood_none xs place is e = sym (of_not (slice_get xs place) e) ∙ ap (λ (n : ℕ). of_name name channel (slice_get xs n)) is
 
   of_none : (xs : List A) (n : ℕ) → ((y : A) → Mem y xs → bytes_eq channel (name y) ≡ false) → of_name name channel (slice_get xs n) ≡ None
   of_none [] n h = refl

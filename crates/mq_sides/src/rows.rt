@@ -1,5 +1,5 @@
 //! Rows that are named, in room that was taken before.
-ghost use Rattle.std.specs.Prelude.{◌≡◌, ◌+◌, ◌<◌, ◌≤◌, [], length, IfOk, OnOk, OnErr};
+ghost use Rattle.std.specs.Prelude.{◌≡◌, ◌+◌, ◌<◌, [], IfOk, OnOk, OnErr};
 ghost use Rattle.mq_sides.specs.Kept.{cleared_rows, named_row};
 
 use mq_base::{Items, NoMemory};

@@ -159,6 +159,7 @@ pub struct Undo<T> {
 pub fn swap_side<T: OfChannel + Drop>(items: &mut Items<T>, new: T) -> Result<Undo<T>, NoMemory>
     ensures ok { OnOk result (items.new ≡ set_named T.channel_of new items.old) }
     ensures undo { IfOk result (λ u. CanUndo u.place u.before items.old items.new) }
+    ensures before { IfOk result (λ u. u.before ≡ standing T.channel_of (T.channel_of new) items.old) }
     ensures err { OnErr result (items.new ≡ items.old) }
     ensures lacks { OnErr result (AreByName T.channel_of items.old → find (λ (x : T). bytes_eq (T.channel_of new) (T.channel_of x)) items.old ≡ None) }
 {
