@@ -21,7 +21,7 @@ ghost use Rattle.mq_steer.specs.Turns.{halted};
 ghost use Rattle.mq_spec_manager.specs.Words.{mqconn, mqopen, mqclose, mqput, mqput1, mqget, mqcmit, mqback, mqdisc};
 
 use crate::limit::command_that_fits;
-use crate::notes::{harden_note, prepare_named, receive_named};
+use crate::notes::{harden_note, log_is_bytes, prepare_named, receive_named};
 use mq_agents::Hardened;
 use mq_base::{ChName, NoMemory, QName};
 use mq_calls::{
@@ -33,7 +33,7 @@ use mq_core::Core;
 use mq_disk::{Cutter, Disk};
 use mq_message::{Dest, Ident, Md, Message, Place};
 use mq_objects::{Command, Defs};
-use mq_restart::{LogRead, Unbegun, Unreturned, bodies_are_bytes};
+use mq_restart::{LogRead, Unbegun, Unreturned};
 use mq_restarts::Back;
 use mq_sync::{Stock, Unit};
 use std::alloc::Global;
@@ -462,7 +462,7 @@ impl<D: Disk> Manager<D> {
         ensures room { IsEnding note.now → MeetsInRoom (manager_of self.old) (harden channel.now note.now self.old.plain) (by_agent result) (manager_of self.new) }
         ensures told { WritesLog self.old (harden channel.now note.now self.old.plain) (by_agent result) self.new }
     {
-        bodies_are_bytes(&self.core.parts.log);
+        log_is_bytes(&self.core);
         harden_note(&mut self.core, channel, note)
     }
 

@@ -1,6 +1,8 @@
 //! What channel ends write, of channels whose names are not blank and with sessions that a restart reads.
 ghost use Rattle.mq_calls.specs.Words.{MeetsInRoom, MeetsOrWants};
 ghost use Rattle.std.specs.Prelude.{◌≡◌, false};
+ghost use Rattle.std.specs.List.{AllByRecursion};
+ghost use Rattle.mq_frame.specs.Reading.{IsBytes};
 ghost use Rattle.mq_spec_manager.specs.Agents.{IsUp, CanHarden, CanPrepare, harden, prepare, receive};
 ghost use Rattle.mq_agents.specs.Ends.{by_agent, by_place, by_prepare};
 ghost use Rattle.mq_law_manager.specs.Facts.{Sound, AreNamed};
@@ -13,10 +15,18 @@ use mq_calls::{AgentStop, Note, PlaceFault, PrepareFault};
 use mq_core::Core;
 use mq_disk::Disk;
 use mq_message::Message;
+use mq_restart::bodies_are_bytes;
 use mq_sync::{End, Unit};
 
 /// The first session that no restart would read.
 const HIGH_SESSION: u64 = 2_305_843_009_213_693_952;
+
+/// The bodies of a manager's log are bytes. It does nothing.
+pub fn log_is_bytes<D: Disk>(core: &Core<D>)
+    ensures { AllByRecursion IsBytes core.now.log.bodies }
+{
+    bodies_are_bytes(&core.parts.log);
+}
 
 fn has_name(channel: &ChName) -> bool
     ensures { result ≡ has_name channel.now }

@@ -97,7 +97,7 @@ fn listed_of(doubt: &Option<InDoubt>) -> usize
 fn all_listed(sides: &[SenderSide]) -> Result<usize, NoMemory>
     ensures { IfOk result (λ n. n ≡ sum_by (λ (s : SenderSide). length (listed s.hardened.in_doubt)) sides.now) }
 {
-    let mut sum = 0;
+    let mut sum = 0usize;
     for side in sides {
         sum = match sum.checked_add(listed_of(&side.hardened.in_doubt)) {
             Some(sum) => sum,

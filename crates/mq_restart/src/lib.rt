@@ -1,4 +1,4 @@
-//! How a queue manager comes up from its log: its first start, and the call `restart`.
+//! How a queue manager comes up from its log: its first start, and why a restart is what its history says.
 #![tactic(auto)]
 
 mod aside;
