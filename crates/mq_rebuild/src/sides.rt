@@ -27,10 +27,7 @@ fn add_sender(alloc: Global, kept: &mut Items<KeptSender>, side: SenderSide) -> 
 /// # Errors
 ///
 /// No memory.
-pub fn senders_of(
-    alloc: Global,
-    sides: Items<SenderSide>,
-) -> Result<Items<KeptSender>, NoMemory>
+pub fn senders_of(alloc: Global, sides: Items<SenderSide>) -> Result<Items<KeptSender>, NoMemory>
     ensures { IfOk result (λ kept. kept ≡ sides) }
 {
     let mut kept = Items::new(alloc);
