@@ -60,4 +60,4 @@ is_low _ = true
 
 -- what can be closed or settled has a name
 abbrev pub can_harden : List ℕ → Note → Bool
-can_harden channel note = is_ending note || has_name channel && is_low note
+can_harden channel note = is_ending note || (has_name channel && is_low note)

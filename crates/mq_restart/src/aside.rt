@@ -78,6 +78,7 @@ fn ends_need(built: &Built) -> Result<u64, NoMemory>
 /// # Errors
 ///
 /// No memory.
+#[tactic(auto, using(crate::proofs::AsideLaws::same_roomed, crate::proofs::AsideLaws::same_aside, crate::proofs::AsideLaws::is_aside))]
 pub fn make_room<D: Disk>(log: &mut Log<D>, built: &Built) -> Result<(), NoMemory>
     ensures same { log.new ≡ record log.old { room = log.new.room; spare = log.new.spare } }
     ensures room { OnOk result (log.new.reserved + 63 ≤ log.new.room) }
@@ -91,5 +92,8 @@ pub fn make_room<D: Disk>(log: &mut Log<D>, built: &Built) -> Result<(), NoMemor
         Ok(()) => {}
         Err(NoMemory) => return Err(NoMemory),
     }
-    log.room(63)
+    match log.room(63) {
+        Ok(()) => Ok(()),
+        Err(NoMemory) => Err(NoMemory),
+    }
 }
