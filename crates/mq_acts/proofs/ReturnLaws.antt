@@ -1,6 +1,6 @@
 -- A restart of a manager, as the history keeps it.
 use Rattle.std.proofs.Common.{◌≡◌, ℕ, ◌+◌, Bool, true, false, [], refl, ap, sym, subst, ◌∙◌}
-use Rattle.std.specs.Prelude.{List, Option, Some, None, Result, Ok, Err, MatchResult}
+use Rattle.std.specs.Prelude.{List, Option, Some, None, Result, Ok, Err}
 use Rattle.mq_base.specs.declared.want.NoMemory.{NoMemory as Want}
 use Rattle.mq_calls.specs.declared.choices.Return.{Return}
 use Rattle.mq_calls.specs.declared.choices.Return.TheVariants.{Comes, Fails}
@@ -11,46 +11,19 @@ use Rattle.mq_history.specs.declared.calls.Chance.TheVariants as chances
 use Rattle.mq_history.specs.declared.calls.Reply.TheVariants as replies
 use Rattle.mq_calls.specs.State.{LogState, Noted, Running}
 use Rattle.mq_calls.specs.State.Running.{Up, Down}
-use Rattle.mq_calls.specs.Images.{begun, raised}
 use Rattle.mq_calls.specs.Words.{Plain, is_up}
 use Rattle.mq_spec_manager.specs.Stops.{failed, restart_at}
-use Rattle.mq_law_manager.specs.Facts.{IsSound}
-use Rattle.mq_law_manager.proofs.Beginning.{image_rests}
-use Rattle.mq_law_manager.proofs.Ending.{sound_still, begun_sound}
-use Rattle.mq_law_manager.proofs.StockStarts.{image_stocked}
-use Rattle.mq_law_image.specs.Values.{AreObjectTexts}
 use Rattle.mq_core.specs.Values.{CoreValue}
-use Rattle.mq_restart.specs.declared.reading.LogRead.{LogRead}
 use Rattle.mq_restart.specs.declared.reading.Unreturned.{Unreturned}
-use Rattle.mq_restart.specs.Returned.{CanEnd, Ends, IsOfImage, Passes, Stayed}
-use Rattle.mq_restart.specs.Stands.{LogStands}
+use Rattle.mq_restart.specs.Returned.{CanEnd, Ends, Passes, Stayed}
 use Rattle.mq_restarts.specs.declared.restarting.Back.{Back}
 use Rattle.mq_restarts.specs.declared.restarting.Back.TheVariants as backs
 use Rattle.mq_restarts.specs.Backs.{IsBack, IsBackFrom}
-use Rattle.mq_manager.specs.Facts.{IsWell}
-use Rattle.mq_manager.specs.Kept.{IsKept}
-use Rattle.mq_manager.proofs.RestartLaws.{kept_restart}
 use Rattle.mq_spec_node.specs.Terms.{Did}
 use Rattle.mq_spec_node.specs.Words.{Own, Done, node_of, begun_anew, quiet, restarted, IsReturn, IsToldReturn}
 use Rattle.mq_events.specs.Counts.{AreBelow}
 use Rattle.mq_acts.specs.declared.restarting.Restarted.{Restarted}
 use Rattle.mq_acts.specs.Restarts.{IsRestart, RestartsAs, came_as, is_wanting, refused_as, StayedAs}
-
--- ---- what holds of the manager between its calls
-
-well_image : (p : Plain) → IsOfImage p → IsWell p
-well_image p o =
-    let q : Plain = begun p.given (raised 0 o.told) o.log p.moment in
-    let s : IsSound q = begun_sound p.given (raised 0 o.told) o.log p.moment (image_rests p.given o.told o.well o.known) (image_stocked p.given.number o.told o.well o.known) in
-    subst IsWell (sym o.plain) (record { up = λ u. s; rest = sound_still q s; limit = o.texts.own.max_message_length.1; batches = tt })
-
-pub kept_back : (tells : Type 0) (read after : LogRead) (v new : CoreValue) (result : Result Back Unreturned) → IsKept tells read v
-    → MatchResult result (λ (b : Back). IsBack tells v.plain b new) (λ (e : Unreturned). Stayed tells v.plain v.faults e new) → LogStands tells after new.log new.plain → IsKept tells after new
-kept_back tells read after v new (Ok b) k m s = record {
-  well = well_image new.plain m.image;
-  log = record { texts = subst (λ (q : Plain). AreObjectTexts q.definitions) (sym m.image.plain) m.image.texts; stands = s };
-}
-kept_back tells read after v new (Err e) k m s = kept_restart tells read after v new (Err e) k m s
 
 -- ---- it came up
 

@@ -1,9 +1,7 @@
 //! Restarts, as events.
-ghost use Rattle.std.specs.Prelude.{◌≡◌, ◌+◌, ◌<◌, ◌^◌, [], MatchResult};
+ghost use Rattle.std.specs.Prelude.{◌≡◌, ◌+◌, ◌<◌, ◌^◌, []};
 ghost use Rattle.mq_history.specs.declared.acts.Act.TheVariants as acts;
 ghost use Rattle.mq_history.specs.declared.calls.Call.TheVariants as calls;
-ghost use Rattle.mq_restart.specs.Returned.{Passes, Stayed};
-ghost use Rattle.mq_restarts.specs.Backs.{IsBack};
 ghost use Rattle.mq_events.specs.States.{IsServed, with_entry};
 ghost use Rattle.mq_events.specs.Events.{MayAct};
 ghost use Rattle.mq_events.specs.Counts.{HasFewRows, IsNode};
@@ -28,14 +26,6 @@ pub(crate) struct Restarted {
     /// Why it was refused; none where the manager came up.
     pub refused: Option<RestartFault>,
     pub delta: Delta,
-}
-
-/// A restart of the manager.
-fn return_manager<D: Disk>(manager: &mut Manager<D>) -> Result<Back, Unreturned>
-    ensures ends { MatchResult result (λ b. IsBack D.tells manager.old.plain b manager.new) (λ e. Stayed D.tells manager.old.plain manager.old.faults e manager.new) }
-    ensures passes { Passes manager.old manager.new }
-{
-    mq_restarts::restart(&mut manager.core, &mut manager.read)
 }
 
 fn chance_of(back: Back) -> Chance
@@ -106,7 +96,7 @@ fn stayed(e: Unreturned, delta: Delta) -> Result<Restarted, NoMemory>
 fn restart_manager<D: Disk>(manager: &mut Manager<D>, alloc: Global) -> Result<Restarted, NoMemory>
     ensures { RestartsAs D.tells manager.old result manager.new }
 {
-    match return_manager(manager) {
+    match manager.restart() {
         Ok(back) => Ok(came(back, manager.take_delta())),
         Err(e) => stayed(e, Items::new(alloc)),
     }

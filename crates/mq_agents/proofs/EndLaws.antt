@@ -8,7 +8,7 @@ use Rattle.mq_calls.specs.State.{Queue as StateQueue}
 use Rattle.mq_place.specs.States.{on_queues}
 use Rattle.mq_core.specs.declared.parts.ChannelEnds.{ChannelEnds}
 use Rattle.mq_core.specs.Views.{PartsValue, plain_of, frozen_of, channels_of}
-use Rattle.mq_core.specs.Ties.{Tied, mode_is_up, one_if, times_in_rows, state_lanes, pending_at}
+use Rattle.mq_core.specs.Ties.{Tied, mode_is_up, one_if, times_in_rows, state_lanes, pending_at, EndsReady}
 use Rattle.mq_core.specs.Placing.{with_states}
 use Rattle.mq_core.proofs.ForceLaws.{queues_on, seen_on, times_on}
 use Rattle.mq_core.proofs.MeetLaws.{running_up}
@@ -16,10 +16,10 @@ use Rattle.mq_core.proofs.MeetLaws.{running_up}
 unfoldable pub with_ends : ChannelEnds → PartsValue → PartsValue
 with_ends e x = record x { ends = e }
 
-pub tied_ends : (e : ChannelEnds) (x : PartsValue) → Tied x → Tied (with_ends e x)
+pub tied_ends : (e : ChannelEnds) (x : PartsValue) → (EndsReady x.ends x.log.spare → EndsReady e x.log.spare) → Tied x → Tied (with_ends e x)
 unfolding with_ends
-tied_ends e x t = record {
-  up = λ u. let w = t.up u in record { live = w.live; settled = w.settled; room = w.room; body = w.body };
+tied_ends e x same t = record {
+  up = λ u. let w = t.up u in record { live = w.live; settled = w.settled; ends = same w.ends; room = w.room; body = w.body };
   reserved = t.reserved;
   within = t.within;
   queues = record { lanes = t.queues.lanes; pending = t.queues.pending };
@@ -66,10 +66,10 @@ unfoldable pub with_rows : (StateQueue → StateQueue) → ChannelEnds → Parts
 with_rows f e x = record (with_states (on_queues f x.queues.states) x) { ends = e }
 
 module _ (f : StateQueue → StateQueue) (named : (q : StateQueue) → (f q).name ≡ q.name) (times : (i : Ident) (q : StateQueue) → times_in_rows i (f q).rows ≤ times_in_rows i q.rows) where
-  pub tied_rows : (e : ChannelEnds) (x : PartsValue) → Tied x → Tied (with_rows f e x)
+  pub tied_rows : (e : ChannelEnds) (x : PartsValue) → (EndsReady x.ends x.log.spare → EndsReady e x.log.spare) → Tied x → Tied (with_rows f e x)
   unfolding with_rows
-  tied_rows e x t = record {
-    up = λ u. let w = t.up u in record { live = w.live; settled = w.settled; room = w.room; body = w.body };
+  tied_rows e x same t = record {
+    up = λ u. let w = t.up u in record { live = w.live; settled = w.settled; ends = same w.ends; room = w.room; body = w.body };
     reserved = t.reserved;
     within = t.within;
     queues = record {

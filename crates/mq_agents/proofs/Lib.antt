@@ -2,6 +2,7 @@ pub mod WalkLaws
 pub mod HeldLaws
 pub mod ExpireLaws
 pub mod EndLaws
+pub mod ReadyLaws
 pub mod WriteLaws
 pub mod TellLaws
 pub mod RemoveLaws

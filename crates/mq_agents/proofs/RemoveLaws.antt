@@ -102,7 +102,7 @@ discards_as queue ident x t h =
 pub tied_removed : (queue : List ℕ) (ident : Ident) (x : PartsValue) → Tied x → Tied (removed_one queue ident x)
 unfolding with_rows
 tied_removed queue ident x t =
-    tied_rows (kept_in (Among queue (ident ∷ []))) (λ q. refl) (λ i q. times_keep i (λ (row : Row). not (selects (Among queue (ident ∷ [])) q.name row)) q.rows) x.ends x t
+    tied_rows (kept_in (Among queue (ident ∷ []))) (λ q. refl) (λ i q. times_keep i (λ (row : Row). not (selects (Among queue (ident ∷ [])) q.name row)) q.rows) x.ends x (λ w. w) t
 
 pub removed_view : (queue : List ℕ) (ident : Ident) (x : PartsValue) → mode_is_up x.mode ≡ true → plain_of (removed_one queue ident x) ≡ apply (Leave (Among queue (ident ∷ []))) (plain_of x)
 unfolding with_rows

@@ -1,6 +1,9 @@
 -- A unit in doubt that is settled: its rows go, or are free again.
-use Rattle.std.proofs.Common.{◌≡◌, ℕ, ◌≤◌, Bool, true, false, List, [], ◌∷◌, map, refl, ap, arith, sym, ◌∙◌}
-use Rattle.std.specs.Prelude.{Some, not}
+use Rattle.std.proofs.Common.{◌≡◌, ℕ, suc, ◌+◌, ◌<◌, ◌≤◌, Bool, true, false, List, [], ◌∷◌, length, get_or, drop, map, refl, ap, arith, add-one, drop-cons, sym, ◌∙◌}
+use Rattle.std.specs.Prelude.{Some, not, sum_by}
+use Rattle.std.proofs.lemmas.List.Sums.{sum_by-cons}
+use Rattle.mq_calls.specs.Recovery.{listed}
+use Rattle.mq_calls.specs.declared.state.SenderSide.{SenderSide}
 use Rattle.mq_message.specs.declared.place.Holder.{Holder}
 use Rattle.mq_message.specs.declared.place.Holder.TheVariants as holders
 use Rattle.mq_calls.specs.declared.agents.Note.TheVariants as notes
@@ -27,7 +30,7 @@ settled_times false by i q = omega (arith, times_freed i (HeldBy by) q)
 
 pub settled_tied : (commit : Bool) (by : Holder) (x : PartsValue) → Tied x → Tied (rows_settled commit by x)
 unfolding with_rows
-settled_tied commit by x t = tied_rows (settled_in commit by) (settled_named commit by) (settled_times commit by) x.ends x t
+settled_tied commit by x t = tied_rows (settled_in commit by) (settled_named commit by) (settled_times commit by) x.ends x (λ w. w) t
 
 with_queues : Plain → List StateQueue → Plain
 with_queues p qs = record p { queues = qs }
@@ -68,3 +71,15 @@ pub settled_noted : (commit operator : Bool) (channel : List ℕ) (unit : Luw) (
     ≡ Some (record { written = records.Resolved channel unit commit operator; changes = settled_changes commit channel old; delta = settled_told commit operator channel unit rows })
 settled_noted commit operator channel unit rows old x was =
     λ i. Some (record { written = records.Resolved channel unit commit operator; changes = settled_changes commit channel (sym was i); delta = settled_told commit operator channel unit rows })
+
+-- how many rows the units in doubt list
+left_at : (sides : List SenderSide) (i : ℕ) (s : SenderSide) → i < length sides → s ≡ get_or sides i s → drop i sides ≡ s ∷ drop (i + 1) sides
+left_at sides i s lt is = drop-cons sides i s lt ∙ ap (λ (x : SenderSide). x ∷ drop (suc i) sides) (sym is) ∙ ap (λ (n : ℕ). s ∷ drop n sides) (sym (add-one i))
+
+pub total_next : (sides : List SenderSide) (i : ℕ) (s : SenderSide) (sum more new : ℕ) → i < length sides → s ≡ get_or sides i s → more ≡ length (listed s.hardened.in_doubt)
+    → sum + sum_by (λ (s : SenderSide). length (listed s.hardened.in_doubt)) (drop i sides) ≡ sum_by (λ (s : SenderSide). length (listed s.hardened.in_doubt)) sides → new ≡ sum + more
+    → new + sum_by (λ (s : SenderSide). length (listed s.hardened.in_doubt)) (drop (i + 1) sides) ≡ sum_by (λ (s : SenderSide). length (listed s.hardened.in_doubt)) sides
+total_next sides i s sum more new lt is one so_far e =
+    let next = ap (λ (ss : List SenderSide). sum_by (λ (s : SenderSide). length (listed s.hardened.in_doubt)) ss) (left_at sides i s lt is) in
+    let cons = sum_by-cons (λ (s : SenderSide). length (listed s.hardened.in_doubt)) s (drop (i + 1) sides) in
+    omega (arith, next, cons, one, so_far, e)

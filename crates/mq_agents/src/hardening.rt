@@ -1,15 +1,19 @@
 //! What channel ends harden beside their messages.
-ghost use Rattle.std.specs.Prelude.{◌≡◌, ◌<◌, ◌^◌, true, length, IfOk};
-ghost use Rattle.mq_calls.specs.Words.{MeetsOrWants, set_sender, set_receiver, sender_or, sender_data, receiver_or, receiver_data};
-ghost use Rattle.mq_spec_manager.specs.Agents.{IsUp, harden};
+ghost use Rattle.std.specs.Prelude.{◌≡◌, ◌+◌, ◌<◌, ◌≤◌, ◌^◌, [], true, find, length, option_copied, None, IfOk, OnOk};
+ghost use Rattle.std.specs.Str.{bytes_eq};
+ghost use Rattle.mq_calls.specs.Words.{MeetsOrWants, MeetsInRoom, receiver_in, set_sender, set_receiver, sender_or, sender_data, receiver_or, receiver_data};
+ghost use Rattle.mq_spec_manager.specs.Agents.{IsUp, CanHarden, harden};
 ghost use Rattle.mq_calls.specs.declared.agents.Note.TheVariants as notes;
 ghost use Rattle.mq_sync.specs.declared.data.End.TheVariants as sync_ends;
 ghost use Rattle.mq_record.specs.Records.{record_bytes};
 ghost use Rattle.mq_core.specs.declared.parts.StoppedWrite.TheVariants as writes;
-ghost use Rattle.mq_core.specs.Forced.{downed};
+ghost use Rattle.mq_calls.specs.declared.state.ReceiverSide.{ReceiverSide as Receiver};
+ghost use Rattle.mq_sides.specs.Places.{AreByName, standing};
+ghost use Rattle.mq_core.specs.Ties.{EndsReady};
+ghost use Rattle.mq_core.specs.Forced.{HasMoreRoom, downed};
 ghost use Rattle.mq_core.specs.Views.{plain_of};
 ghost use Rattle.mq_agents.specs.Ends.{by_agent, stopped_agent};
-ghost use Rattle.mq_agents.specs.Written.{IsWhole, Writes, agent_of, stop_of, with_senders, with_receivers, note_record, IsSenderNote, IsReceiverNote};
+ghost use Rattle.mq_agents.specs.Written.{IsWhole, Lacks, Writes, WritesOver, WantsNone, drawn, is_live, live_need, agent_of, stop_of, with_senders, with_receivers, note_record, IsSenderNote, IsReceiverNote};
 ghost use Rattle.mq_core.specs.Values.{manager_of, WritesLog};
 
 use mq_base::{ChName, NoMemory, QName};
@@ -17,8 +21,14 @@ use mq_calls::{AgentStop, Did, Note, ReceiverSide, SenderSide};
 use mq_core::{Core, Mode, Parts, StoppedWrite};
 use mq_disk::{Disk, Stop};
 use mq_record::{bound_bytes, closed_bytes, seq_set_bytes, session_bytes};
-use mq_sides::{receiver_data, sender_data, swap_side, undo_side};
+use mq_sides::{
+    KeptReceiver, KeptSender, receiver_data, receiver_of, sender_data, swap_side, undo_side,
+};
 use mq_sync::{End, ReceiverData, SenderData};
+use mq_unit::Effects;
+
+/// What the log takes of a session that is closed, in bytes.
+const CLOSING: u64 = 34;
 
 /// Why a record was not written: no memory, or what stopped its write.
 #[derive(Clone, Copy)]
@@ -75,10 +85,11 @@ fn write_sender<D: Disk>(
     channel: &ChName,
     note: &Note,
     bytes: &[u8],
-    side: SenderSide,
+    side: KeptSender,
 ) -> Result<(), Unwritten>
     requires live { parts.old.log.live ≡ true }
     requires small { length bytes.now < 2 ^ 32 }
+    requires ends { EndsReady (with_senders (set_sender side parts.old.ends.senders) parts.old.ends) parts.old.log.spare }
     ensures { Writes bytes.now (with_senders (set_sender side parts.old.ends.senders) parts.old.ends) (writes.Hardened channel.now note.now) parts.old result parts.new }
 {
     match parts.log.room(5 + bytes.len() as u64) {
@@ -106,17 +117,20 @@ fn write_sender<D: Disk>(
     Ok(())
 }
 
-/// Forces a record, with what it says of a receiver; where its write was stopped nothing of that stands, and the manager is down.
+/// Forces a record, with what it says of a receiver; what stood for its channel is handed back. Where its write was stopped nothing of that
+/// stands, and the manager is down. It takes no memory where the log has room, and something stands for the channel.
 fn write_receiver<D: Disk>(
     parts: &mut Parts<D>,
     channel: &ChName,
     note: &Note,
     bytes: &[u8],
-    side: ReceiverSide,
-) -> Result<(), Unwritten>
+    side: KeptReceiver,
+) -> Result<Option<KeptReceiver>, Unwritten>
     requires live { parts.old.log.live ≡ true }
     requires small { length bytes.now < 2 ^ 32 }
-    ensures { Writes bytes.now (with_receivers (set_receiver side parts.old.ends.receivers) parts.old.ends) (writes.Hardened channel.now note.now) parts.old result parts.new }
+    requires ends { EndsReady (with_receivers (set_receiver side parts.old.ends.receivers) parts.old.ends) parts.old.log.spare }
+    ensures written { WritesOver (standing (λ (r : Receiver). r.channel) side.channel parts.old.ends.receivers) bytes.now (with_receivers (set_receiver side parts.old.ends.receivers) parts.old.ends) (writes.Hardened channel.now note.now) parts.old result parts.new }
+    ensures lacks { Lacks (AreByName (λ (r : Receiver). r.channel) parts.old.ends.receivers → find (λ (r : Receiver). bytes_eq side.channel r.channel) parts.old.ends.receivers ≡ None) (5 + length bytes.now) parts.old result }
 {
     match parts.log.room(5 + bytes.len() as u64) {
         Ok(()) => {}
@@ -140,7 +154,101 @@ fn write_receiver<D: Disk>(
             return Err(Unwritten::Stopped(stop));
         }
     }
+    Ok(undo.before)
+}
+
+/// What a sender has hardened, with the room that it needs.
+pub(crate) fn kept_sender<D: Disk>(
+    parts: &Parts<D>,
+    side: SenderSide,
+) -> Result<KeptSender, NoMemory>
+    ensures { IfOk result (λ k. k ≡ side) }
+{
+    KeptSender::new(parts.alloc, side)
+}
+
+/// What a receiver has hardened, with the room that it needs.
+fn kept_receiver<D: Disk>(parts: &Parts<D>, side: ReceiverSide) -> Result<KeptReceiver, NoMemory>
+    ensures { IfOk result (λ k. k ≡ side) }
+{
+    KeptReceiver::new(parts.alloc, side)
+}
+
+/// What a receiver has hardened whose session is closed. It takes no memory.
+fn kept_closed<D: Disk>(parts: &Parts<D>, side: ReceiverSide) -> KeptReceiver
+    requires { side.hardened.closed ≡ true }
+    ensures { result ≡ side }
+{
+    KeptReceiver::of_closed(parts.alloc, side)
+}
+
+/// Sets aside what the log takes when a session of a receiver is closed, where its session is open from now on and none was.
+///
+/// # Errors
+///
+/// No memory; nothing has changed but room.
+pub fn aside_for<D: Disk>(
+    parts: &mut Parts<D>,
+    channel: &ChName,
+    closed: bool,
+) -> Result<(), NoMemory>
+    ensures more { HasMoreRoom parts.old parts.new }
+    ensures ready { OnOk result (EndsReady parts.old.ends parts.old.log.spare → (side : Receiver) → side.channel ≡ channel.now → side.hardened.closed ≡ closed → EndsReady (with_receivers (set_receiver side parts.new.ends.receivers) parts.new.ends) parts.new.log.spare) }
+{
+    if closed {
+        return Ok(());
+    }
+    if has_live(parts, channel) {
+        return Ok(());
+    }
+    match aside_log(parts, CLOSING) {
+        Ok(()) => Ok(()),
+        Err(NoMemory) => Err(NoMemory),
+    }
+}
+
+/// Sets so many bytes of the log's memory aside.
+pub(crate) fn aside_log<D: Disk>(parts: &mut Parts<D>, bytes: u64) -> Result<(), NoMemory>
+    ensures more { HasMoreRoom parts.old parts.new }
+    ensures ends { parts.new.ends ≡ parts.old.ends }
+    ensures spare { OnOk result (parts.new.log.spare ≡ parts.old.log.spare + bytes) }
+{
+    match parts.log.set_aside(bytes) {
+        Ok(()) => {}
+        Err(NoMemory) => return Err(NoMemory),
+    }
     Ok(())
+}
+
+/// Whether the session of a channel's receiver is open.
+fn has_live<D: Disk>(parts: &Parts<D>, channel: &ChName) -> bool
+    ensures { result ≡ is_live (receiver_in channel.now parts.now.ends.receivers) }
+{
+    is_live(receiver_of(&parts.ends.receivers, channel))
+}
+
+/// Whether an end's session is open.
+fn is_live(data: Option<&ReceiverData>) -> bool
+    ensures { result ≡ is_live (option_copied data.entry) }
+{
+    match data {
+        None => false,
+        Some(data) => !data.closed,
+    }
+}
+
+/// The room in which what stood for a channel told that its session is closed. It takes no memory.
+fn room_of<D: Disk>(parts: &Parts<D>, before: Option<KeptReceiver>) -> Effects
+    ensures told { result.dids ≡ [] }
+    ensures room { live_need before ≤ result.room }
+{
+    match before {
+        None => Effects::new(parts.alloc),
+        Some(kept) => {
+            let (_side, effects) = kept.into_parts();
+            effects
+        }
+    }
 }
 
 /// A sender hardens a record of these bytes, and has this data from then on.
@@ -156,6 +264,7 @@ fn harden_sender<D: Disk>(
     requires size { IsWhole bytes.now (note_record channel.now note.now) }
     requires small { length bytes.now < 2 ^ 32 }
     requires side { IsSenderNote channel.now note.now side core.old.plain }
+    requires kept { side.hardened.in_doubt ≡ (sender_or (sender_data channel.now core.old.plain)).in_doubt }
     ensures meets { MeetsOrWants (manager_of core.old) (harden channel.now note.now core.old.plain) (by_agent result) (manager_of core.new) }
     ensures told { WritesLog core.old (harden channel.now note.now core.old.plain) (by_agent result) core.new }
 {
@@ -164,7 +273,11 @@ fn harden_sender<D: Disk>(
         Ok(()) => {}
         Err(NoMemory) => return Err(AgentStop::NoMemory),
     }
-    match write_sender(&mut core.parts, channel, note, bytes, side) {
+    let kept = match kept_sender(&core.parts, side) {
+        Ok(kept) => kept,
+        Err(NoMemory) => return Err(AgentStop::NoMemory),
+    };
+    match write_sender(&mut core.parts, channel, note, bytes, kept) {
         Ok(()) => {}
         Err(unwritten) => {
             let stopped = stop_of(unwritten);
@@ -201,8 +314,17 @@ fn harden_receiver<D: Disk>(
         Ok(()) => {}
         Err(NoMemory) => return Err(AgentStop::NoMemory),
     }
-    match write_receiver(&mut core.parts, channel, note, bytes, side) {
+    let closed = side.hardened.closed;
+    let kept = match kept_receiver(&core.parts, side) {
+        Ok(kept) => kept,
+        Err(NoMemory) => return Err(AgentStop::NoMemory),
+    };
+    match aside_for(&mut core.parts, channel, closed) {
         Ok(()) => {}
+        Err(NoMemory) => return Err(AgentStop::NoMemory),
+    }
+    match write_receiver(&mut core.parts, channel, note, bytes, kept) {
+        Ok(_) => {}
         Err(unwritten) => {
             let stopped = stop_of(unwritten);
             let agent = agent_of(unwritten);
@@ -210,6 +332,53 @@ fn harden_receiver<D: Disk>(
             return Err(agent);
         }
     }
+    core.effects.tell(Did::Hardened {
+        channel: *channel,
+        note: *note,
+    });
+    Ok(())
+}
+
+/// What was set aside for a record is room of the log again. It takes no memory.
+pub(crate) fn draw<D: Disk>(parts: &mut Parts<D>, bytes: u64)
+    requires { bytes ≤ parts.old.log.spare }
+    ensures { parts.new ≡ drawn bytes parts.old }
+{
+    parts.log.draw(bytes);
+}
+
+/// A receiver whose session is open hardens that it is closed. It takes no memory: the room was made when the session was hardened.
+fn close<D: Disk>(
+    core: &mut Core<D>,
+    channel: &ChName,
+    note: &Note,
+    bytes: &[u8],
+    side: ReceiverSide,
+) -> Result<(), AgentStop>
+    requires up { IsUp core.old.plain }
+    requires bytes { bytes.now ≡ record_bytes (note_record channel.now note.now) }
+    requires size { IsWhole bytes.now (note_record channel.now note.now) }
+    requires small { length bytes.now ≤ 29 }
+    requires side { IsReceiverNote channel.now note.now side core.old.plain }
+    requires closed { side.hardened.closed ≡ true }
+    requires live { is_live (receiver_data channel.now core.old.plain) ≡ true }
+    ensures wants { WantsNone result }
+    ensures meets { MeetsOrWants (manager_of core.old) (harden channel.now note.now core.old.plain) (by_agent result) (manager_of core.new) }
+    ensures told { WritesLog core.old (harden channel.now note.now core.old.plain) (by_agent result) core.new }
+{
+    core.begin_call();
+    draw(&mut core.parts, CLOSING);
+    let kept = kept_closed(&core.parts, side);
+    let before = match write_receiver(&mut core.parts, channel, note, bytes, kept) {
+        Ok(before) => before,
+        Err(unwritten) => {
+            let stopped = stop_of(unwritten);
+            let agent = agent_of(unwritten);
+            core.stopped = stopped;
+            return Err(agent);
+        }
+    };
+    core.effects = room_of(&core.parts, before);
     core.effects.tell(Did::Hardened {
         channel: *channel,
         note: *note,
@@ -364,11 +533,11 @@ pub fn harden_bound<D: Disk>(
     )
 }
 
-/// A receiver hardens that its session is closed.
+/// A receiver hardens that its session is closed. Of one that is open it takes no memory.
 ///
 /// # Errors
 ///
-/// The disk or the cut stopped the write, and the manager is down; no memory, and nothing has changed.
+/// The disk or the cut stopped the write, and the manager is down; no memory, where no session is open, and nothing has changed.
 pub fn harden_closed<D: Disk>(
     core: &mut Core<D>,
     channel: &ChName,
@@ -377,6 +546,7 @@ pub fn harden_closed<D: Disk>(
     requires up { IsUp core.old.plain }
     ensures meets { MeetsOrWants (manager_of core.old) (harden channel.now (notes.Closed session) core.old.plain) (by_agent result) (manager_of core.new) }
     ensures told { WritesLog core.old (harden channel.now (notes.Closed session) core.old.plain) (by_agent result) core.new }
+    ensures room { CanHarden channel.now (notes.Closed session) core.old.plain → MeetsInRoom (manager_of core.old) (harden channel.now (notes.Closed session) core.old.plain) (by_agent result) (manager_of core.new) }
 {
     let old = receiver_now(&core.parts, channel);
     let note = Note::Closed { session };
@@ -390,7 +560,11 @@ pub fn harden_closed<D: Disk>(
             last: old.last,
         },
     };
-    harden_receiver(core, channel, &note, &closed_bytes(channel, session), side)
+    let bytes = closed_bytes(channel, session);
+    if has_live(&core.parts, channel) {
+        return close(core, channel, &note, &bytes, side);
+    }
+    harden_receiver(core, channel, &note, &bytes, side)
 }
 
 /// An operator sets the last sequence number of a receiver.

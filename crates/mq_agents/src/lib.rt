@@ -16,7 +16,7 @@ pub use batches::hold_batch;
 pub use discarding::discard;
 pub use expiring::expire;
 pub use hardening::{
-    Unwritten, agent_stop, go_down, harden_bound, harden_closed, harden_last_received,
+    Unwritten, agent_stop, aside_for, go_down, harden_bound, harden_closed, harden_last_received,
     harden_last_sent, harden_session,
 };
 pub use preparing::prepare;

@@ -7,7 +7,9 @@ ghost use Rattle.mq_spec_manager.specs.Agents.{IsUp, CanPrepare, prepare, prepar
 ghost use Rattle.mq_record.specs.Room.{with_piece};
 ghost use Rattle.mq_core.specs.declared.parts.StoppedWrite.TheVariants as writes;
 ghost use Rattle.mq_core.specs.Views.{plain_of};
-ghost use Rattle.mq_core.specs.Ties.{Tied};
+ghost use Rattle.mq_calls.specs.declared.state.SenderSide.{SenderSide as Sender};
+ghost use Rattle.mq_core.specs.Ties.{EndsReady, Tied};
+ghost use Rattle.mq_calls.specs.Recovery.{listed};
 ghost use Rattle.mq_core.specs.Forced.{HasMoreRoom};
 ghost use Rattle.mq_agents.specs.Ends.{by_prepare};
 ghost use Rattle.mq_agents.specs.Written.{Writes, with_senders};
@@ -15,18 +17,21 @@ ghost use Rattle.mq_agents.specs.Removing.{Doubts, ident_put, IsDoubtOf, IsFille
 ghost use Rattle.mq_core.specs.Values.{manager_of, WritesLog};
 
 use crate::discarding::make_record_room;
-use crate::hardening::{Unwritten, agent_of, go_down, sender_now, stop_of};
+use crate::hardening::{Unwritten, agent_of, aside_log, go_down, kept_sender, sender_now, stop_of};
 use mq_base::{ChName, Items, NoMemory};
 use mq_calls::{AgentStop, Batch, Did, PrepareFault, SenderSide};
 use mq_core::{Core, Parts, StoppedWrite};
 use mq_disk::Disk;
 use mq_message::Ident;
 use mq_record::{Buffer, prepared_front};
-use mq_sides::{batch_of, drop_side, swap_side, undo_side};
+use mq_sides::{KeptSender, batch_of, drop_side, swap_side, undo_side};
 use mq_sync::{InDoubt, SenderData};
 
 /// The most idents whose record is shorter than 2^32 bytes.
 const MOST_IDENTS: usize = 252_645_129;
+
+/// What the log takes of a unit in doubt that is settled, in bytes.
+pub(crate) const SETTLING: u64 = 44;
 
 /// Whether the log lacks the room for a batch to be prepared.
 #[tactic(auto, using(crate::proofs::FillLaws::full_long))]
@@ -56,6 +61,7 @@ fn copy_batch<D: Disk>(parts: &Parts<D>, batch: &Batch, last: u32) -> Result<InD
     }
 }
 
+/// The batch of a channel that is not prepared.
 pub(crate) fn batch_now<'a, D: Disk>(parts: &'a Parts<D>, channel: &ChName) -> Option<&'a Batch>
     ensures { option_copied result ≡ batch_of channel.now (plain_of parts.now).channels.batches }
 {
@@ -108,11 +114,12 @@ fn write_doubt<D: Disk>(
     parts: &mut Parts<D>,
     channel: &ChName,
     last: u32,
-    side: SenderSide,
+    side: KeptSender,
 ) -> Result<(), Unwritten>
     requires live { parts.old.log.live ≡ true }
     requires small { length parts.old.body.bytes < 2 ^ 32 }
     requires room { parts.old.log.reserved + (5 + length parts.old.body.bytes) ≤ parts.old.log.room }
+    requires ends { EndsReady (with_senders (set_sender side parts.old.ends.senders) parts.old.ends) parts.old.log.spare }
     ensures { Writes parts.old.body.bytes (with_senders (set_sender side parts.old.ends.senders) parts.old.ends) (writes.Prepared channel.now last) parts.old result parts.new }
 {
     let undo = match swap_side(&mut parts.ends.senders, side) {
@@ -132,6 +139,35 @@ fn write_doubt<D: Disk>(
             );
             return Err(Unwritten::Stopped(stop));
         }
+    }
+    Ok(())
+}
+
+/// Sets aside what the settlement of a unit of so many rows takes: of the log, and for the note of its stopped write.
+fn aside_for_doubt<D: Disk>(parts: &mut Parts<D>, count: usize) -> Result<(), NoMemory>
+    ensures more { HasMoreRoom parts.old parts.new }
+    ensures ready { OnOk result (EndsReady parts.old.ends parts.old.log.spare → (side : Sender) → length (listed side.hardened.in_doubt) ≡ count → EndsReady (with_senders (set_sender side parts.new.ends.senders) parts.new.ends) parts.new.log.spare) }
+{
+    match aside_rows(parts, count) {
+        Ok(()) => {}
+        Err(NoMemory) => return Err(NoMemory),
+    }
+    match aside_log(parts, SETTLING) {
+        Ok(()) => Ok(()),
+        Err(NoMemory) => Err(NoMemory),
+    }
+}
+
+/// Makes room for so many rows of a note.
+fn aside_rows<D: Disk>(parts: &mut Parts<D>, count: usize) -> Result<(), NoMemory>
+    ensures more { HasMoreRoom parts.old parts.new }
+    ensures spare { parts.new.log.spare ≡ parts.old.log.spare }
+    ensures ends { parts.new.ends ≡ record parts.old.ends { rows = parts.new.ends.rows } }
+    ensures room { OnOk result (parts.new.ends.rows.room ≡ parts.old.ends.rows.room + count) }
+{
+    match parts.ends.rows.set_aside(count) {
+        Ok(()) => {}
+        Err(NoMemory) => return Err(NoMemory),
     }
     Ok(())
 }
@@ -166,6 +202,10 @@ fn prepare_unit<D: Disk>(
         Ok(old) => old,
         Err(NoMemory) => return Err(PrepareFault::Stop(AgentStop::NoMemory)),
     };
+    match aside_for_doubt(&mut core.parts, doubt.idents.len()) {
+        Ok(()) => {}
+        Err(NoMemory) => return Err(PrepareFault::Stop(AgentStop::NoMemory)),
+    }
     match fill_prepared(&mut core.parts, channel, &doubt) {
         Ok(()) => {}
         Err(NoMemory) => return Err(PrepareFault::Stop(AgentStop::NoMemory)),
@@ -181,7 +221,11 @@ fn prepare_unit<D: Disk>(
             in_doubt: Some(doubt),
         },
     };
-    match write_doubt(&mut core.parts, channel, last, side) {
+    let kept = match kept_sender(&core.parts, side) {
+        Ok(kept) => kept,
+        Err(NoMemory) => return Err(PrepareFault::Stop(AgentStop::NoMemory)),
+    };
+    match write_doubt(&mut core.parts, channel, last, kept) {
         Ok(()) => {}
         Err(unwritten) => {
             let stopped = stop_of(unwritten);

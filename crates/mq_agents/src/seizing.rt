@@ -126,13 +126,14 @@ fn bind<D: Disk>(core: &mut Core<D>, channel: &ChName) -> Result<(), NoMemory>
 fn unbind<D: Disk>(core: &mut Core<D>, channel: &ChName)
     requires up { IsUp core.old.plain }
     ensures meets { MeetsOrWants (manager_of core.old) (set_bound channel.now false core.old.plain) (Ok tt) (manager_of core.new) }
+    ensures room { MeetsInRoom (manager_of core.old) (set_bound channel.now false core.old.plain) (Ok tt) (manager_of core.new) }
     ensures told { WritesLog core.old (set_bound channel.now false core.old.plain) (Ok tt) core.new }
 {
     core.begin_call();
     drop_side(core.parts.alloc, &mut core.parts.ends.bound, channel);
 }
 
-/// Whether a receiver is bound from now on. Only a first bond of a channel takes memory.
+/// Whether a receiver is bound from now on. Only a first bond of a channel takes memory; that it isn't bound takes none.
 ///
 /// # Errors
 ///
@@ -141,6 +142,7 @@ pub fn set_bound<D: Disk>(core: &mut Core<D>, channel: &ChName, bound: bool) -> 
     requires up { IsUp core.old.plain }
     ensures meets { MeetsOrWants (manager_of core.old) (set_bound channel.now bound core.old.plain) (by_memory result) (manager_of core.new) }
     ensures told { WritesLog core.old (set_bound channel.now bound core.old.plain) (by_memory result) core.new }
+    ensures room { bound ≡ false → MeetsInRoom (manager_of core.old) (set_bound channel.now bound core.old.plain) (by_memory result) (manager_of core.new) }
 {
     if bound {
         return bind(core, channel);

@@ -1,5 +1,5 @@
 //! A unit in doubt is settled: its rows go, or are free again.
-ghost use Rattle.std.specs.Prelude.{◌≡◌, ◌<◌, ◌≤◌, ◌^◌, Some, true, map, length, take, flat_map, option_copied, IfOk};
+ghost use Rattle.std.specs.Prelude.{◌≡◌, ◌-◌, ◌<◌, ◌≤◌, ◌^◌, Some, None, true, map, length, take, flat_map, sum_by, option_copied, IfOk, IfSome};
 ghost use Rattle.mq_message.specs.declared.place.Holder.TheVariants as holders;
 ghost use Rattle.mq_calls.specs.Words.{MeetsOrWants, set_sender, sender_data, data_settled, settle_by, stored};
 ghost use Rattle.mq_calls.specs.Reads.{in_doubt_of};
@@ -11,13 +11,17 @@ ghost use Rattle.mq_calls.specs.declared.records.LogRecord.TheVariants as record
 ghost use Rattle.mq_record.specs.Records.{record_bytes};
 ghost use Rattle.mq_unit.specs.Told.{told, told_all};
 ghost use Rattle.mq_core.specs.declared.parts.StoppedWrite.TheVariants as writes;
+ghost use Rattle.mq_calls.specs.Recovery.{listed};
+ghost use Rattle.mq_calls.specs.declared.state.SenderSide.{SenderSide as Sender};
+ghost use Rattle.mq_core.specs.Ties.{EndsReady, rows_need};
 ghost use Rattle.mq_core.specs.Views.{plain_of};
 ghost use Rattle.mq_agents.specs.Ends.{by_agent};
-ghost use Rattle.mq_agents.specs.Written.{IsWhole, with_senders};
+ghost use Rattle.mq_agents.specs.Written.{IsAside, IsWhole, drawn_if, drawn_need, with_senders};
 ghost use Rattle.mq_agents.specs.Settling.{AreLone, WritesRows, each_settled, row_settled, rows_settled};
 ghost use Rattle.mq_core.specs.Values.{manager_of, WritesLog};
 
-use crate::hardening::{Unwritten, agent_of, go_down, sender_now, stop_of};
+use crate::hardening::{Unwritten, agent_of, draw, go_down, sender_now, stop_of};
+use crate::preparing::SETTLING;
 use crate::walking::first_held;
 use mq_base::{ChName, Items, NoMemory, QName};
 use mq_calls::{AgentStop, Did, Note, Remove, SenderSide, Why};
@@ -25,7 +29,7 @@ use mq_core::{Core, Parts, StoppedWrite};
 use mq_disk::Disk;
 use mq_message::Holder;
 use mq_record::resolved_bytes;
-use mq_sides::{sender_of, swap_side, undo_side};
+use mq_sides::{KeptSender, RowRoom, sender_of, swap_side, undo_side};
 use mq_sync::{InDoubt, SenderData, Unit};
 use mq_unit::Effects;
 
@@ -124,11 +128,12 @@ fn write_settled<D: Disk>(
     commit: bool,
     operator: bool,
     bytes: &[u8],
-    side: SenderSide,
+    side: KeptSender,
     rows: Items<Remove>,
 ) -> Result<Items<Remove>, Unwritten>
     requires live { parts.old.log.live ≡ true }
     requires small { length bytes.now < 2 ^ 32 }
+    requires ends { EndsReady (with_senders (set_sender side parts.old.ends.senders) parts.old.ends) parts.old.log.spare }
     ensures { WritesRows rows bytes.now (with_senders (set_sender side parts.old.ends.senders) parts.old.ends) (writes.Settled channel.now unit.now commit operator rows) parts.old result parts.new }
 {
     match parts.log.room(5 + bytes.len() as u64) {
@@ -217,6 +222,75 @@ fn tell_settled(effects: &mut Effects, rows: &[Remove], commit: bool)
     }
 }
 
+/// How many rows the units in doubt of all senders list; none where no number tells it.
+fn rows_total(sides: &[KeptSender]) -> Option<usize>
+    ensures { IfSome result (λ n. n ≡ sum_by (λ (s : Sender). length (listed s.hardened.in_doubt)) sides.now) }
+{
+    let mut sum: usize = 0;
+    for side in sides {
+        let Some(more) = sum.checked_add(rows_listed(side)) else {
+            return None;
+        };
+        sum = more;
+    }
+    Some(sum)
+}
+
+/// How many rows the unit in doubt of a sender lists.
+fn rows_listed(side: &KeptSender) -> usize
+    ensures { result ≡ length (listed side.now.hardened.in_doubt) }
+{
+    match &side.side().hardened.in_doubt {
+        None => 0,
+        Some(doubt) => doubt.idents.len(),
+    }
+}
+
+/// Room for the rows of notes that is needed no longer is let go, where there is memory.
+fn shrink_rows<D: Disk>(parts: &mut Parts<D>)
+    requires rows { rows_need parts.old.ends ≤ parts.old.ends.rows.room }
+    ensures same { parts.new ≡ record parts.old { ends = record parts.old.ends { rows = parts.new.ends.rows } } }
+    ensures rows { rows_need parts.old.ends ≤ parts.new.ends.rows.room }
+{
+    let Some(total) = rows_total(parts.ends.senders.as_slice()) else {
+        return;
+    };
+    match RowRoom::with_room(parts.alloc, total) {
+        Ok(rows) => parts.ends.rows = rows,
+        Err(NoMemory) => {}
+    }
+}
+
+/// What was set aside for a unit in doubt is room of the log again. It takes no memory.
+fn draw_if<D: Disk>(parts: &mut Parts<D>, had: bool)
+    requires { drawn_need had ≤ parts.old.log.spare }
+    ensures { parts.new ≡ drawn_if had parts.old }
+{
+    if had {
+        draw(parts, SETTLING);
+    }
+}
+
+/// What was set aside for a unit that was in doubt is kept no longer.
+fn give_back<D: Disk>(parts: &mut Parts<D>, had: bool)
+    requires bytes { drawn_need had ≤ parts.old.log.spare }
+    requires ready { EndsReady parts.old.ends (parts.old.log.spare - drawn_need had) }
+    ensures aside { IsAside parts.old parts.new }
+    ensures room { parts.old.log.room ≤ parts.new.log.room }
+    ensures ready { EndsReady parts.new.ends parts.new.log.spare }
+{
+    draw_if(parts, had);
+    shrink_rows(parts);
+}
+
+/// What a sender has hardened that has nothing in doubt. It takes no memory.
+fn kept_settled<D: Disk>(parts: &Parts<D>, side: SenderSide) -> KeptSender
+    requires { side.hardened.in_doubt ≡ None }
+    ensures { result ≡ side }
+{
+    KeptSender::of_settled(parts.alloc, side)
+}
+
 /// A sender hardens a record of these bytes, which says that its unit in doubt is settled.
 fn settle_unit<D: Disk>(
     core: &mut Core<D>,
@@ -252,11 +326,13 @@ fn settle_unit<D: Disk>(
         Ok(old) => old,
         Err(NoMemory) => return Err(AgentStop::NoMemory),
     };
+    let had = old.in_doubt.is_some();
     let hardened = settled_data(old, commit);
     let side = SenderSide {
         channel: *channel,
         hardened,
     };
+    let kept = kept_settled(&core.parts, side);
     let gone = match write_settled(
         &mut core.parts,
         channel,
@@ -264,7 +340,7 @@ fn settle_unit<D: Disk>(
         commit,
         operator,
         bytes,
-        side,
+        kept,
         rows,
     ) {
         Ok(gone) => gone,
@@ -277,6 +353,7 @@ fn settle_unit<D: Disk>(
     };
     let by = Holder::Batch(*channel);
     settle_rows(&mut core.parts, &gone, &by, commit);
+    give_back(&mut core.parts, had);
     tell_settled(&mut core.effects, gone.as_slice(), commit);
     core.effects.tell(Did::Hardened {
         channel: *channel,

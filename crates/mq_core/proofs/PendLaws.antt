@@ -140,7 +140,7 @@ tied_pended number queue m need c x y there found ident more forced p t =
     let f = pended (Put queue m) in
     let sums = sum_changed unit_need number f x.desk.live c found in
     subst Tied (sym p.same) (record {
-      up = λ u. let w = t.up u in record { live = w.live; settled = w.settled; room = room_or need _ _ _ w.room p.more p.room; body = let b = w.body in omega (arith, b, p.body) };
+      up = λ u. let w = t.up u in record { live = w.live; settled = w.settled; ends = w.ends; room = room_or need _ _ _ w.room p.more p.room; body = let b = w.body in omega (arith, b, p.body) };
       reserved = λ u. let r = t.reserved u in omega (arith, r, sums, more);
       within = λ u. within_or need _ _ (t.within u) p.within;
       queues = record {

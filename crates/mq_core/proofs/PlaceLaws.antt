@@ -236,7 +236,7 @@ pub tied_arrived : (queue : List ℕ) (m : Message) (items : List Item) (x : Par
 tied_arrived queue m items x r t =
     let times = λ (i : Ident). times_changed queue (arrived m) (λ s. refl) i (one_if (same_ident m.ident i)) (λ s. times_insert i _ s.queue.rows) x.queues.states r.state r.is in
     record {
-      up = λ u. let w = t.up u in record { live = w.live; settled = w.settled; room = w.room; body = w.body };
+      up = λ u. let w = t.up u in record { live = w.live; settled = w.settled; ends = w.ends; room = w.room; body = w.body };
       reserved = t.reserved;
       within = t.within;
       queues = record {
@@ -258,7 +258,7 @@ tied_due true queue items x s e t =
     let f = on_queue (made_due (depth_type (local_of queue x.defs.definitions)) x.moment) in
     let times = λ (i : Ident). times_changed queue f (λ s. refl) i 0 (λ s. omega arith) x.queues.states s e in
     record {
-      up = λ u. let w = t.up u in record { live = w.live; settled = w.settled; room = w.room; body = w.body };
+      up = λ u. let w = t.up u in record { live = w.live; settled = w.settled; ends = w.ends; room = w.room; body = w.body };
       reserved = t.reserved;
       within = t.within;
       queues = record {

@@ -25,10 +25,11 @@ use Rattle.mq_calls.specs.declared.commands.Halt.TheVariants as halts
 use Rattle.mq_spec_manager.specs.Words.{next_ident, placed, sent_answer}
 use Rattle.mq_log.specs.State.{LogState}
 use Rattle.mq_place.specs.States.{QueueState, queues_of, state_in, change_state, expecting, unpended}
+use Rattle.mq_sides.specs.Kept.{RowsKept}
 use Rattle.mq_core.specs.Views.{PartsValue, plain_of, frozen_of, noted}
 use Rattle.mq_core.specs.Writes.{added, now_part}
 use Rattle.mq_core.specs.Calls.{now_step}
-use Rattle.mq_core.specs.Ties.{TiedBut, Tied, IsReady, HasCounts, AreCounted, state_lanes, local_lanes, pending_at, times_in_queues, times_in_units, one_if, mode_is_up}
+use Rattle.mq_core.specs.Ties.{TiedBut, Tied, EndsReady, IsReady, HasCounts, AreCounted, state_lanes, local_lanes, pending_at, times_in_queues, times_in_units, one_if, mode_is_up}
 use Rattle.mq_core.specs.Placing.{with_states, arrived_at, due_if, put_in_place}
 use Rattle.mq_core.specs.Forced.{IsForced, IsExpected, HasMoreRoom, counted_put, downed_put}
 use Rattle.mq_core.proofs.PlaceLaws.{name_is, some_same, state_named, state_changed, state_other, seen_kept, pending_changed, ready, placed_view, tied_placed}
@@ -48,6 +49,7 @@ pub record OnWay (queue : List ℕ) (m : Message) (x w : PartsValue) : Type 0 wh
   pub same : w ≡ record (with_states (change_state queue expecting x.queues.states) x) { idents = x.idents + 1; log = w.log; body = w.body }
   pub live : w.log.live ≡ x.log.live
   pub settled : w.log.pending ≡ x.log.pending
+  pub spare : w.log.spare ≡ x.log.spare
   pub reserved : w.log.reserved ≡ x.log.reserved
   pub max : w.log.max ≡ x.log.max
   pub room : mode_is_up x.mode ≡ true → x.log.reserved ≤ w.log.room
@@ -86,7 +88,7 @@ tied_on_way queue m x w there o t =
     let found = kept_queue queue x t there in
     let same = queues_same queue expecting (λ s. refl) x.queues.states in
     subst (TiedBut (Put queue m ∷ [])) (sym o.same) (record {
-      up = λ u. let old = t.up u in record { live = o.live ∙ old.live; settled = o.settled ∙ old.settled; room = let a = o.room u in omega (arith, a, o.reserved); body = let a = o.body u in omega (arith, a, o.reserved) };
+      up = λ u. let old = t.up u in record { live = o.live ∙ old.live; settled = o.settled ∙ old.settled; ends = subst (EndsReady x.ends) (sym o.spare) old.ends; room = let a = o.room u in omega (arith, a, o.reserved); body = let a = o.body u in omega (arith, a, o.reserved) };
       reserved = λ u. o.reserved ∙ t.reserved u;
       within = λ u. let w = t.within u in omega (arith, o.reserved, o.max, w);
       queues = record {
@@ -175,6 +177,7 @@ way_free queue m need x y ident e t =
       same = ap (with_rest (counted_put need y).body y.log) e.same;
       live = ap (λ (l : LogState). l.live) is;
       settled = ap (λ (l : LogState). l.pending) is;
+      spare = ap (λ (l : LogState). l.spare) is;
       reserved = ap (λ (l : LogState). l.reserved) is;
       max = ap (λ (l : LogState). l.max) is;
       room = λ u. let w = (t.up u).room in omega (arith, w, e.more);
@@ -191,6 +194,7 @@ way_forced queue m n r x y z en ident e f t =
       same = ap (with_rest (counted_put n z).body z.log) f.same ∙ ap (with_rest (counted_put n z).body z.log) e.same;
       live = ap (λ (l : LogState). l.live) wrote ∙ ap (λ (l : LogState). l.live) is;
       settled = ap (λ (l : LogState). l.pending) wrote ∙ ap (λ (l : LogState). l.pending) is;
+      spare = ap (λ (l : LogState). l.spare) wrote ∙ ap (λ (l : LogState). l.spare) is;
       reserved = ap (λ (l : LogState). l.reserved) wrote ∙ ap (λ (l : LogState). l.reserved) is;
       max = ap (λ (l : LogState). l.max) wrote ∙ ap (λ (l : LogState). l.max) is;
       room = λ u. omega (arith, f.room, e.log, en);
@@ -231,18 +235,40 @@ unpended_of queue x = with_states (change_state queue unpended x.queues.states) 
 with_states_of : List QueueState → PartsValue → LogState → Buffered → PartsValue
 with_states_of states x log body = record (with_states states x) { log = log; body = body }
 
+-- more room was taken, and none set aside
+with_aside : RowsKept → ℕ → PartsValue → PartsValue
+with_aside rows spare x = record x { ends = record x.ends { rows = rows }; log = record x.log { spare = spare } }
+
+pub more_room : (x y : PartsValue) → y ≡ record x { log = record x.log { room = y.log.room }; body = y.body } → x.log.room ≤ y.log.room → x.body.room + length x.body.bytes ≤ y.body.room + length y.body.bytes → HasMoreRoom x y
+unfolding with_aside
+more_room x y e log body =
+    let rows : x.ends.rows ≡ y.ends.rows = sym (ap (λ (z : PartsValue). z.ends.rows) e) in
+    let spare : x.log.spare ≡ y.log.spare = sym (ap (λ (z : PartsValue). z.log.spare) e) in
+    let some = ap (λ (r : RowsKept). r.room) rows in
+    record {
+      same = e ∙ (λ i. with_aside (rows i) (spare i) (record x { log = record x.log { room = y.log.room }; body = y.body }));
+      log = log;
+      spare = omega (arith, spare);
+      rows = omega (arith, some);
+      body = body;
+    }
+
 pub given_up : (queue : List ℕ) (n : ℕ) (x y : PartsValue) → IsExpected queue n x y → HasMoreRoom x (with_states (change_state queue unpended y.queues.states) y)
 unfolding unpended_of with_states_of
-given_up queue n x y e = record {
-  same = ap (unpended_of queue) e.same ∙ ap (λ (states : List QueueState). let l : LogState = record x.log { room = y.log.room } in with_states_of states x l y.body) (unpend_expect queue x.queues.states);
-  log = e.more;
-  body = omega (arith, e.body);
-}
+given_up queue n x y e = more_room x (with_states (change_state queue unpended y.queues.states) y)
+    (ap (unpended_of queue) e.same ∙ ap (λ (states : List QueueState). let l : LogState = record x.log { room = y.log.room } in with_states_of states x l y.body) (unpend_expect queue x.queues.states))
+    e.more (omega (arith, e.body))
 
 -- more room leaves all tied
 pub tied_roomier : (x y : PartsValue) → HasMoreRoom x y → Tied x → Tied y
 tied_roomier x y h t = subst Tied (sym h.same) (record {
-  up = λ u. let w = t.up u in record { live = w.live; settled = w.settled; room = omega (arith, w.room, h.log); body = omega (arith, w.body, h.body) };
+  up = λ u. let w = t.up u in record {
+    live = w.live;
+    settled = w.settled;
+    ends = record { log = let a = w.ends.log in omega (arith, a, h.spare); rows = let a = w.ends.rows in omega (arith, a, h.rows); senders = w.ends.senders; receivers = w.ends.receivers };
+    room = omega (arith, w.room, h.log);
+    body = omega (arith, w.body, h.body);
+  };
   reserved = t.reserved;
   within = t.within;
   queues = record { lanes = t.queues.lanes; pending = t.queues.pending };

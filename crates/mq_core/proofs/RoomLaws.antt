@@ -10,7 +10,7 @@ use Rattle.mq_core.specs.Writes.{added}
 use Rattle.mq_core.specs.Forced.{IsReserved, HasMoreRoom, returned}
 use Rattle.mq_place.specs.States.{QueueState, QueueStates, change_state, expecting, unpended}
 use Rattle.mq_core.specs.Views.{PartsValue}
-use Rattle.mq_core.proofs.PutLaws.{unpend_expect}
+use Rattle.mq_core.proofs.PutLaws.{unpend_expect, more_room}
 
 unfoldable pub with_parts : QueueStates → LogState → Buffered → PartsValue → PartsValue
 with_parts queues log body x = record x { queues = queues; log = log; body = body }
@@ -54,8 +54,4 @@ pub returned_room : (n : ℕ) (x r : PartsValue) → IsReserved n x r → HasMor
 unfolding with_back with_reserved
 returned_room n x r h =
     let back : x.log.reserved + n - n ≡ x.log.reserved = omega arith in
-    record {
-      same = ap (with_back n r.body) h.same ∙ ap (with_reserved x r.log.room (returned n r).body) back;
-      log = h.more;
-      body = omega (arith, h.body);
-    }
+    more_room x (returned n r) (ap (with_back n r.body) h.same ∙ ap (with_reserved x r.log.room (returned n r).body) back) h.more (omega (arith, h.body))

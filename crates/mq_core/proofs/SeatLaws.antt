@@ -20,7 +20,7 @@ same_units cs = record { need = refl; puts = λ name. refl; times = λ i. refl; 
 
 pub tied_desk : (x : PartsValue) (desk : Desk) → SameUnits x.desk.live desk.live → Tied x → Tied (record x { desk = desk })
 tied_desk x desk same t = record {
-  up = λ u. let w = t.up u in record { live = w.live; settled = w.settled; room = w.room; body = w.body };
+  up = λ u. let w = t.up u in record { live = w.live; settled = w.settled; ends = w.ends; room = w.room; body = w.body };
   reserved = λ u. t.reserved u ∙ sym same.need;
   within = t.within;
   queues = record { lanes = t.queues.lanes; pending = λ name. omega (arith, t.queues.pending name, same.puts name) };

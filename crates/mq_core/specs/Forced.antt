@@ -34,10 +34,12 @@ pub record IsForced (r : LogRecord) (x : PartsValue) (result : Result (Unit {0})
 abbrev pub downed : StoppedWrite → PartsValue → PartsValue
 downed write x = record (with_states (on_queues (kept_in Nonpersistent) x.queues.states) x) { mode = modes.Down (Some write) 0 None }
 
--- more room was taken, and nothing else has changed
+-- more room was taken, or set aside, and nothing else has changed
 pub record HasMoreRoom (x y : PartsValue) : Type 0 where
-  pub same : y ≡ record x { log = record x.log { room = y.log.room }; body = y.body }
+  pub same : y ≡ record x { ends = record x.ends { rows = y.ends.rows }; log = record x.log { room = y.log.room; spare = y.log.spare }; body = y.body }
   pub log : x.log.room ≤ y.log.room
+  pub spare : x.log.spare ≤ y.log.spare
+  pub rows : x.ends.rows.room ≤ y.ends.rows.room
   pub body : x.body.room + length x.body.bytes ≤ y.body.room + length y.body.bytes
 
 -- There is room for one row more, which waits from now on, and for a record of so many bytes.

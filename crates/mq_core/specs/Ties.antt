@@ -3,6 +3,7 @@ use Rattle.std.specs.Prelude.{◌≡◌, ℕ, ◌+◌, ◌^◌, ◌<◌, ◌≤�
 use Rattle.std.specs.List.{AllByRecursion}
 use Rattle.std.specs.Str.{bytes_eq}
 use Rattle.mq_calls.specs.Words.{Ident, Message, Row, has_ident, Queue, LocalQueue, same_ident, local_of, is_by_priority, puts_to, unit_need}
+use Rattle.mq_calls.specs.Recovery.{listed}
 use Rattle.mq_calls.specs.declared.state.Connection.{Connection}
 use Rattle.mq_calls.specs.declared.state.Item.{Item}
 use Rattle.mq_calls.specs.declared.state.Item.TheVariants.{Put, Take}
@@ -11,6 +12,11 @@ use Rattle.mq_unit.specs.Forced.{CanBeForced}
 use Rattle.mq_place.specs.States.{QueueState, queues_of, state_in, CanPlace, IsNowhere}
 use Rattle.mq_core.specs.declared.parts.Mode.{Mode}
 use Rattle.mq_core.specs.declared.parts.Mode.TheVariants as modes
+use Rattle.mq_sync.specs.declared.data.InDoubt.{InDoubt}
+use Rattle.mq_calls.specs.declared.state.SenderSide.{SenderSide}
+use Rattle.mq_calls.specs.declared.state.ReceiverSide.{ReceiverSide}
+use Rattle.mq_core.specs.declared.parts.ChannelEnds.{ChannelEnds}
+use Rattle.mq_sides.specs.Places.{AreByName}
 use Rattle.mq_core.specs.Views.{PartsValue}
 
 abbrev pub mode_is_up : Mode → Bool
@@ -64,10 +70,36 @@ pub record SameUnits (old new : List Connection) : Type 0 where
 abbrev pub IsSeated : PartsValue → PartsValue → Type 0
 IsSeated x y = (y ≡ record x { desk = y.desk }) × SameUnits x.desk.live y.desk.live
 
--- while it is up: the log takes more, and there is memory for what the units need of it
+-- what of the log's memory is set aside for channel ends: for each unit in doubt the record that settles it, for each session that
+-- isn't closed the record that closes it, each with its length and its gate
+abbrev pub doubt_bytes : Option InDoubt → ℕ
+doubt_bytes None = 0
+doubt_bytes (Some d) = 44
+
+abbrev pub session_bytes : Bool → ℕ
+session_bytes true = 0
+session_bytes false = 34
+
+abbrev pub ends_need : ChannelEnds → ℕ
+ends_need e = sum_by (λ (s : SenderSide). doubt_bytes s.hardened.in_doubt) e.senders + sum_by (λ (r : ReceiverSide). session_bytes r.hardened.closed) e.receivers
+
+-- how many rows are noted where the write that settles a unit in doubt is stopped, of all units together
+abbrev pub rows_need : ChannelEnds → ℕ
+rows_need e = sum_by (λ (s : SenderSide). length (listed s.hardened.in_doubt)) e.senders
+
+-- Units in doubt are settled, and sessions closed, without memory: so many bytes of the log's are set aside for it, there is room
+-- for the rows that are noted, and a side is found at its name's place.
+pub record EndsReady (e : ChannelEnds) (spare : ℕ) : Type 0 where
+  pub log : ends_need e ≤ spare
+  pub rows : rows_need e ≤ e.rows.room
+  pub senders : AreByName (λ (s : SenderSide). s.channel) e.senders
+  pub receivers : AreByName (λ (r : ReceiverSide). r.channel) e.receivers
+
+-- while it is up: the log takes more, there is memory for what the units need of it, and the channel ends are ready
 pub record TiedUp (x : PartsValue) : Type 0 where
   pub live : x.log.live ≡ true
   pub settled : x.log.pending ≡ None
+  pub ends : EndsReady x.ends x.log.spare
   pub room : x.log.reserved ≤ x.log.room
   pub body : x.log.reserved ≤ x.body.room + length x.body.bytes
 

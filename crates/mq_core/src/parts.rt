@@ -1,6 +1,6 @@
 //! The parts of a queue manager, as its code keeps them.
 use mq_base::{ChName, Items, QName};
-use mq_calls::{Note, ReceiverSide, Remove, Seizure, SenderSide, Why};
+use mq_calls::{Note, Remove, Seizure, Why};
 use mq_codes::Reason;
 use mq_disk::Disk;
 use mq_handles::Live;
@@ -11,7 +11,7 @@ use mq_objects::Defs;
 use mq_place::Queues;
 use mq_record::Buffer;
 use mq_sc_apply::Planned;
-use mq_sides::KeptBatch;
+use mq_sides::{KeptBatch, KeptReceiver, KeptSender, RowRoom};
 use mq_sync::Unit;
 use std::alloc::Global;
 use std::marker::Model;
@@ -117,16 +117,18 @@ pub enum Mode {
 /// order of the channels' names, one entry a channel.
 #[derive(Drop)]
 pub struct ChannelEnds {
-    /// What each sender channel has hardened.
-    pub senders: Items<SenderSide>,
-    /// What each receiver channel has hardened.
-    pub receivers: Items<ReceiverSide>,
+    /// What each sender channel has hardened, with room for what its unit in doubt tells where it is settled.
+    pub senders: Items<KeptSender>,
+    /// What each receiver channel has hardened, with room for what it tells where its session is closed.
+    pub receivers: Items<KeptReceiver>,
     /// The sender channels that run, and the queue that each reads.
     pub seizures: Items<Seizure>,
     /// The rows that a sender channel holds for a batch that is not prepared, with room for its release.
     pub batches: Items<KeptBatch>,
     /// The receiver channels that run.
     pub bound: Items<ChName>,
+    /// Room for the rows of a unit in doubt, which are noted where the write that settles it is stopped.
+    pub rows: RowRoom,
 }
 
 /// The parts of a manager. Contracts see each of them, with the room that was taken for rows, for

@@ -21,7 +21,7 @@ use Rattle.mq_handles.specs.Rising.{AreRising, connection_number}
 use Rattle.mq_handles.specs.Seats.{emptied}
 use Rattle.mq_place.specs.States.{QueueState, state_in, unpended}
 use Rattle.mq_core.specs.Views.{PartsValue, plain_of}
-use Rattle.mq_core.specs.Ties.{TiedBut, Tied, mode_is_up, SameUnits, AreCounted, waits, one_if, pending_at, state_lanes, times_in_rows, times_in_queues}
+use Rattle.mq_core.specs.Ties.{TiedBut, Tied, EndsReady, mode_is_up, SameUnits, AreCounted, waits, one_if, pending_at, state_lanes, times_in_rows, times_in_queues}
 use Rattle.mq_core.specs.Placing.{put_in_place, put_each, take_each, removed_from, arrived_at, due_if}
 use Rattle.mq_core.specs.Forced.{IsForced}
 use Rattle.mq_core.specs.Values.{bodies_in}
@@ -37,6 +37,7 @@ pub record Wrote (n : ℕ) (x y : PartsValue) : Type 0 where
   pub same : y ≡ record x { log = y.log; body = y.body }
   pub live : y.log.live ≡ x.log.live
   pub settled : y.log.pending ≡ x.log.pending
+  pub spare : y.log.spare ≡ x.log.spare
   pub reserved : y.log.reserved ≡ x.log.reserved
   pub max : y.log.max ≡ x.log.max
   pub room : x.log.room ≤ y.log.room + n
@@ -49,6 +50,7 @@ wrote_forced r x y f =
       same = f.same;
       live = ap (λ (l : LogState). l.live) wrote;
       settled = ap (λ (l : LogState). l.pending) wrote;
+      spare = ap (λ (l : LogState). l.spare) wrote;
       reserved = ap (λ (l : LogState). l.reserved) wrote;
       max = ap (λ (l : LogState). l.max) wrote;
       room = f.room;
@@ -56,7 +58,7 @@ wrote_forced r x y f =
     }
 
 pub wrote_none : (x y : PartsValue) → y ≡ x → Wrote 0 x y
-wrote_none x y e = subst (Wrote 0 x) (sym e) (record { same = refl; live = refl; settled = refl; reserved = refl; max = refl; room = omega arith; body = omega arith })
+wrote_none x y e = subst (Wrote 0 x) (sym e) (record { same = refl; live = refl; settled = refl; spare = refl; reserved = refl; max = refl; room = omega arith; body = omega arith })
 
 pub wrote_if : (o : Option LogRecord) (x y : PartsValue) → IfForced o x (Ok tt) y → Wrote (need_of o) x y
 wrote_if None x y h = wrote_none x y h.1
@@ -83,7 +85,7 @@ pub tied_ended : (number n : ℕ) (c : Connection) (x y : PartsValue) → n ≤ 
 tied_ended number n c x y most found w t =
     let sums = sum_changed unit_need number emptied x.desk.live c found in
     subst (λ (z : PartsValue). TiedBut c.unit (ended_unit number c z)) (sym w.same) (record {
-      up = λ u. let old = t.up u in record { live = w.live ∙ old.live; settled = w.settled ∙ old.settled; room = let a = old.room in omega (arith, a, w.reserved, w.room, most); body = let a = old.body in omega (arith, a, w.reserved, w.body) };
+      up = λ u. let old = t.up u in record { live = w.live ∙ old.live; settled = w.settled ∙ old.settled; ends = subst (EndsReady x.ends) (sym w.spare) old.ends; room = let a = old.room in omega (arith, a, w.reserved, w.room, most); body = let a = old.body in omega (arith, a, w.reserved, w.body) };
       reserved = λ u. let r = t.reserved u in omega (arith, r, sums, w.reserved);
       within = λ u. let most = t.within u in omega (arith, most, w.reserved, w.max);
       queues = record {
@@ -109,7 +111,7 @@ tied_removed queue ident items x t =
     let f = kept_in (Among queue (ident ∷ [])) in
     let times = λ (i : Ident). times_on i f (λ q. times_keep i (λ (row : Row). not (selects (Among queue (ident ∷ [])) q.name row)) q.rows) x.queues.states in
     record {
-      up = λ u. let w = t.up u in record { live = w.live; settled = w.settled; room = w.room; body = w.body };
+      up = λ u. let w = t.up u in record { live = w.live; settled = w.settled; ends = w.ends; room = w.room; body = w.body };
       reserved = t.reserved;
       within = t.within;
       queues = record {
@@ -256,7 +258,7 @@ tied_unpended queue m items x t =
     let s = waiting_there (puts_to queue x.desk.live + waits queue items) (state_in queue x.queues.states) (omega (arith, waiting, here)) in
     let same = queues_same queue unpended (λ s. refl) x.queues.states in
     record {
-      up = λ u. let w = t.up u in record { live = w.live; settled = w.settled; room = w.room; body = w.body };
+      up = λ u. let w = t.up u in record { live = w.live; settled = w.settled; ends = w.ends; room = w.room; body = w.body };
       reserved = t.reserved;
       within = t.within;
       queues = record {
@@ -286,7 +288,7 @@ tied_freed queue ident items x t =
     let f = released_in (Among queue (ident ∷ [])) true in
     let times = λ (i : Ident). times_on i f (λ q. times_retag i _ (λ row. release_ident i _ row) q.rows) x.queues.states in
     record {
-      up = λ u. let w = t.up u in record { live = w.live; settled = w.settled; room = w.room; body = w.body };
+      up = λ u. let w = t.up u in record { live = w.live; settled = w.settled; ends = w.ends; room = w.room; body = w.body };
       reserved = t.reserved;
       within = t.within;
       queues = record {

@@ -21,7 +21,7 @@ use Rattle.mq_core.specs.Views.{PartsValue, plain_of}
 use Rattle.mq_core.specs.Ties.{Tied, mode_is_up}
 use Rattle.mq_core.specs.Forced.{HasMoreRoom}
 use Rattle.mq_core.specs.Values.{CoreValue, bodies_in, behind_record}
-use Rattle.mq_core.proofs.PutLaws.{tied_roomier, roomier_view}
+use Rattle.mq_core.proofs.PutLaws.{more_room, tied_roomier, roomier_view}
 use Rattle.mq_get.specs.declared.leaving.Leaving.{Leaving}
 use Rattle.mq_get.specs.Leaving.{leaving_record, leaving_need, leaving_part, leaving_met, gone_part, gone_parts, held_part}
 use Rattle.mq_get.specs.Rooms.{IsRoomy, IsItemMore, IsHeld, IsUnheld, Writes, unheld, gave_back}
@@ -56,13 +56,11 @@ unfolding unheld_with unheld_parts
 unheld_room number item need r x p =
     let back : r.log.reserved + need - need ≡ r.log.reserved = omega arith in
     let body : Buffered = (unheld number need x).body in
-    record {
-      same = ap (unheld_with number need body) p.same
-          ∙ ap (λ (cs : List Connection). unheld_parts r x.log.room body cs (r.log.reserved + need - need)) (gave_up number item r.desk.live)
-          ∙ ap (unheld_parts r x.log.room body r.desk.live) back;
-      log = p.more;
-      body = omega (arith, p.body);
-    }
+    more_room r (unheld number need x)
+    (ap (unheld_with number need body) p.same
+    ∙ ap (λ (cs : List Connection). unheld_parts r x.log.room body cs (r.log.reserved + need - need)) (gave_up number item r.desk.live)
+    ∙ ap (unheld_parts r x.log.room body r.desk.live) back)
+    p.more (omega (arith, p.body))
 
 less_by : ℕ → LogState → LogState
 less_by need l = record l { reserved = l.reserved - need }

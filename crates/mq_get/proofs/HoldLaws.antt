@@ -58,7 +58,7 @@ count_take name items queue ident persistent = sym (puts_in_count name (items ++
 -- more room leaves all tied
 pub tied_roomy : (n : ℕ) (x y : PartsValue) → IsRoomy n x y → Tied x → Tied y
 tied_roomy n x y h t = subst Tied (sym h.same) (record {
-  up = λ u. let w = t.up u in record { live = w.live; settled = w.settled; room = omega (arith, w.room, h.more); body = let b = w.body in omega (arith, b, h.body) };
+  up = λ u. let w = t.up u in record { live = w.live; settled = w.settled; ends = w.ends; room = omega (arith, w.room, h.more); body = let b = w.body in omega (arith, b, h.body) };
   reserved = t.reserved;
   within = t.within;
   queues = record { lanes = t.queues.lanes; pending = t.queues.pending };
@@ -79,7 +79,7 @@ tied_item number queue ident persistent n c x y found more p t =
     let f = pended item in
     let sums = sum_changed unit_need number f x.desk.live c found in
     subst Tied (sym p.same) (record {
-      up = λ u. let w = t.up u in record { live = w.live; settled = w.settled; room = room_or n _ _ _ w.room p.more p.room; body = let b = w.body in omega (arith, b, p.body) };
+      up = λ u. let w = t.up u in record { live = w.live; settled = w.settled; ends = w.ends; room = room_or n _ _ _ w.room p.more p.room; body = let b = w.body in omega (arith, b, p.body) };
       reserved = λ u. let r = t.reserved u in omega (arith, r, sums, more);
       within = λ u. within_or n _ _ (t.within u) p.within;
       queues = record {
@@ -120,7 +120,7 @@ pub tied_held : (number : ℕ) (queue : List ℕ) (ident : Ident) (x : PartsValu
 tied_held number queue ident x t =
     let f = held_in (Among queue (ident ∷ [])) (holders.Unit number) in
     record {
-      up = λ u. let w = t.up u in record { live = w.live; settled = w.settled; room = w.room; body = w.body };
+      up = λ u. let w = t.up u in record { live = w.live; settled = w.settled; ends = w.ends; room = w.room; body = w.body };
       reserved = t.reserved;
       within = t.within;
       queues = record {

@@ -18,7 +18,7 @@ use Rattle.mq_scan.specs.declared.scanning.Met.{Met}
 use Rattle.mq_unit.specs.Told.{Telling}
 use Rattle.mq_core.specs.declared.parts.StoppedWrite.TheVariants as writes
 use Rattle.mq_core.specs.Views.{PartsValue, plain_of}
-use Rattle.mq_core.specs.Ties.{Tied, state_lanes, pending_at, times_in_queues, mode_is_up}
+use Rattle.mq_core.specs.Ties.{Tied, EndsReady, state_lanes, pending_at, times_in_queues, mode_is_up}
 use Rattle.mq_core.specs.Values.{CoreValue, IsRecordIn, bodies_in, behind_record}
 use Rattle.mq_core.proofs.ForceLaws.{queues_on, seen_on, times_on, times_keep, forced_view, frozen_view, tied_downed, stops_at}
 use Rattle.mq_get.specs.declared.leaving.Leaving.{Leaving}
@@ -39,6 +39,7 @@ pub record Wrote (removes : List Remove) (x z : PartsValue) : Type 0 where
   pub same : z ≡ record x { log = z.log; body = z.body }
   pub live : z.log.live ≡ x.log.live
   pub settled : z.log.pending ≡ x.log.pending
+  pub spare : z.log.spare ≡ x.log.spare
   pub reserved : z.log.reserved ≡ x.log.reserved
   pub max : z.log.max ≡ x.log.max
   pub armed : z.log.armed ≡ x.log.armed - forced_calls (leaving_record removes)
@@ -55,6 +56,7 @@ wrote [] x z e = record {
   same = let back : x ≡ z = sym e in e ∙ (λ i. record x { log = (back i).log; body = (back i).body });
   live = ap (λ (y : PartsValue). y.log.live) e;
   settled = ap (λ (y : PartsValue). y.log.pending) e;
+  spare = ap (λ (y : PartsValue). y.log.spare) e;
   reserved = ap (λ (y : PartsValue). y.log.reserved) e;
   max = ap (λ (y : PartsValue). y.log.max) e;
   armed = let a = ap (λ (y : PartsValue). y.log.armed) e in omega (arith, a);
@@ -70,6 +72,7 @@ wrote (r ∷ rs) x z f = record {
   same = f.same;
   live = ap (λ (l : LogState). l.live) f.log;
   settled = ap (λ (l : LogState). l.pending) f.log;
+  spare = ap (λ (l : LogState). l.spare) f.log;
   reserved = ap (λ (l : LogState). l.reserved) f.log;
   max = ap (λ (l : LogState). l.max) f.log;
   armed = f.ends.0;
@@ -91,7 +94,7 @@ unfolding out_by
 tied_out removes queue idents x z w room t =
     let f = kept_in (Among queue idents) in
     subst (λ (y : PartsValue). Tied (out_by queue idents y)) (sym w.same) (record {
-      up = λ u. let o = t.up u in let r = room u in record { live = w.live ∙ o.live; settled = w.settled ∙ o.settled; room = omega (arith, r, w.room, w.reserved); body = let b = o.body in omega (arith, b, w.body, w.reserved) };
+      up = λ u. let o = t.up u in let r = room u in record { live = w.live ∙ o.live; settled = w.settled ∙ o.settled; ends = subst (EndsReady x.ends) (sym w.spare) o.ends; room = omega (arith, r, w.room, w.reserved); body = let b = o.body in omega (arith, b, w.body, w.reserved) };
       reserved = λ u. w.reserved ∙ t.reserved u;
       within = λ u. let most = t.within u in omega (arith, w.reserved, w.max, most);
       queues = record {
@@ -203,7 +206,7 @@ gone_breaks why queue (m ∷ ms) by v w h = h
 -- room that is given back leaves all tied
 pub tied_back : (n : ℕ) (x : PartsValue) → (mode_is_up x.mode ≡ true → x.log.reserved + n ≤ x.body.room + length x.body.bytes) → Tied x → Tied (gave_back n x)
 tied_back n x room t = record {
-  up = λ u. let w = t.up u in let r = room u in record { live = w.live; settled = w.settled; room = w.room; body = omega (arith, r) };
+  up = λ u. let w = t.up u in let r = room u in record { live = w.live; settled = w.settled; ends = w.ends; room = w.room; body = omega (arith, r) };
   reserved = t.reserved;
   within = t.within;
   queues = record { lanes = t.queues.lanes; pending = t.queues.pending };

@@ -32,8 +32,10 @@ gave_back need x = record x { body = record { bytes = []; room = x.body.room + l
 
 -- memory was taken for some, and so much room was given back
 pub record IsGivenBack (n : ℕ) (x y : PartsValue) : Type 0 where
-  pub same : y ≡ record x { log = record x.log { room = y.log.room }; body = y.body }
+  pub same : y ≡ record x { ends = record x.ends { rows = y.ends.rows }; log = record x.log { room = y.log.room; spare = y.log.spare }; body = y.body }
   pub log : x.log.room ≤ y.log.room
+  pub spare : x.log.spare ≤ y.log.spare
+  pub rows : x.ends.rows.room ≤ y.ends.rows.room
   pub body : x.body.room + length x.body.bytes ≤ y.body.room + length y.body.bytes + n
 
 -- the record of rows that leave was forced, where there is one, or its write was stopped

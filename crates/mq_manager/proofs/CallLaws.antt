@@ -1,6 +1,7 @@
 -- What holds of a manager and of its log between its calls is kept by each of them.
 use Rattle.std.proofs.Common.{◌≡◌, ℕ, ◌<◌, Bool, true, false, List, length, refl, ap, sym, subst, arith, ◌∙◌}
-use Rattle.std.specs.Prelude.{Option, Result, ◌&&◌}
+use Rattle.std.specs.Prelude.{Option, Result, ◌&&◌, ◌||◌}
+use Rattle.std.specs.List.{AllByRecursion}
 use Rattle.std.proofs.lemmas.Bool.Decides.{nat_tests}
 use Rattle.mq_calls.specs.declared.agents.Note.{Note}
 use Rattle.mq_calls.specs.declared.agents.Note.TheVariants as notes
@@ -21,6 +22,11 @@ use Rattle.mq_calls.specs.declared.commands.Halt.{Halt}
 use Rattle.mq_calls.specs.declared.agents.SeizeFault.{SeizeFault}
 use Rattle.mq_calls.specs.declared.agents.PrepareFault.{PrepareFault}
 use Rattle.mq_calls.specs.Meeting.Wants.{Nowhere, Behind, Anywhere}
+use Rattle.mq_calls.specs.Images.{lasting}
+use Rattle.mq_calls.specs.State.{Plain, Running}
+use Rattle.mq_calls.specs.State.Running.{Up, Down}
+use Rattle.mq_frame.specs.Reading.{IsBytes}
+use Rattle.mq_spec_log.specs.Applies.Start.{Later}
 use Rattle.mq_spec_manager.specs.Words.{Never, mqconn, mqopen, mqclose, mqput, mqput1, mqget, mqcmit, mqback, mqdisc}
 use Rattle.mq_spec_manager.specs.Triggers.{trigger_turn}
 use Rattle.mq_spec_manager.specs.Commands.{command}
@@ -32,18 +38,21 @@ use Rattle.mq_law_log.proofs.Agents.{trigger_harmless, seize_harmless, leave_har
 use Rattle.mq_law_log.proofs.Landings.{receive_harmless}
 use Rattle.mq_law_log.proofs.Moves.{move_harmless}
 use Rattle.mq_law_log.proofs.Commanded.{command_harmless}
-use Rattle.mq_law_image.specs.Values.{IsCommandText}
+use Rattle.mq_law_image.specs.Values.{IsCommandText, StepMakes}
 use Rattle.mq_core.specs.Values.{CoreValue, WritesLog, begun_call, manager_of}
 use Rattle.mq_restart.specs.declared.reading.LogRead.{LogRead}
+use Rattle.mq_restart.specs.declared.reading.LogRead.TheVariants as reads
+use Rattle.mq_restart.specs.Stands.{StandsUp}
 use Rattle.mq_manager.specs.Facts.{IsWell}
 use Rattle.mq_manager.specs.Limits.{fits}
-use Rattle.mq_manager.specs.Reads.{StepCanBeRead, IsLowNote, has_name, is_low, can_harden}
+use Rattle.mq_manager.specs.Reads.{StepCanBeRead, IsLowNote, IsEnding, has_name, is_ending, is_low, can_harden}
 use Rattle.mq_manager.specs.Kept.{IsKept}
 use Rattle.mq_manager.proofs.WellLaws.{Idles, true_false, conn_down, going_down, for_down, turn_down, well_conn, well_open, well_close, well_put, well_put1, well_get, well_cmit, well_back, well_disc, well_turn}
 use Rattle.mq_manager.proofs.CommandLaws.{command_down, well_command}
 use Rattle.mq_manager.proofs.AgentLaws.{well_seize, well_leave, well_bound, well_expire, well_hold, well_release, well_prepare, well_harden, well_discard, well_move, well_receive}
 use Rattle.mq_manager.proofs.ReadableLaws.{conn_can, open_can, close_can, put_can, put1_can, get_can, cmit_can, back_can, disc_can, trigger_can, seize_can, leave_can, bound_can, expire_can, hold_can, release_can, prepare_can, harden_can, receive_can, move_can, discard_can, command_can}
-use Rattle.mq_manager.proofs.KeepLaws.{log_after}
+use Rattle.mq_manager.proofs.KeepLaws.{at_up, foreign_keeps, log_after}
+use Rattle.mq_manager.proofs.NamedLaws.{ending_named, image_names}
 
 named_is : (channel : List ℕ) → has_name channel ≡ true → 0 < length channel
 named_is channel e = grind (arith, nat_tests, e)
@@ -93,6 +102,50 @@ module _ (tells : Type 0) (read : LogRead) (v new : CoreValue) (k : IsKept tells
   pub kept_command : (c : Command) (result : Result Shown (Halt ScRefusal)) → IsCommandText c → (fits c ≡ false → new ≡ begun_call v) → MeetsOrWants (manager_of v) (command c v.plain) result (manager_of new) → WritesLog v (command c v.plain) result new → IsKept tells read new
   kept_command c result text unfit m w = kept_by Anywhere (command c v.plain) result m w (command_down c v.plain) (λ s. command_harmless c v.plain s) (command_can c v.plain text k.log.texts) (well_command v new k.well c result unfit m)
 
+-- a channel end hardens: what restarts read of a log that is its own is read again
+kept_harden : (tells : Type 0) (read : LogRead) (v new : CoreValue) → IsKept tells read v → IsUp v.plain → (channel : List ℕ) (note : Note) (result : Result (Unit {0}) (Halt Never)) → CanHarden channel note v.plain → 0 < length channel → IsLowNote note
+    → MeetsOrWants (manager_of v) (harden channel note v.plain) result (manager_of new) → WritesLog v (harden channel note v.plain) result new → IsKept tells read new
+kept_harden tells read v new k up channel note result can named low m w =
+    kept_by tells read v new k Anywhere (harden channel note v.plain) result m w (λ d. absurd (true_false _ d up)) (λ s. harden_harmless_whole channel note v.plain can) (harden_can channel note v.plain named low)
+    (well_harden (manager_of v) (manager_of new) k.well up channel note result can m)
+
+-- a session is closed, or a unit in doubt settled: its channel has a name where the log tells of it
+ending_low : (note : Note) → IsEnding note → IsLowNote note
+ending_low (notes.Session partner session) h = absurd h
+ending_low (notes.Resolved unit commit operator) h = tt
+ending_low (notes.Bound partner session last) h = tt
+ending_low (notes.Closed session) h = tt
+ending_low (notes.SeqSet end last) h = tt
+
+ending_is : (note : Note) → is_ending note ≡ true → IsEnding note
+ending_is (notes.Session partner session) e = absurd cc
+ending_is (notes.Resolved unit commit operator) e = tt
+ending_is (notes.Bound partner session last) e = absurd cc
+ending_is (notes.Closed session) e = tt
+ending_is (notes.SeqSet end last) e = absurd cc
+
+ending_makes : (channel : List ℕ) (note : Note) (p : Plain) → IsEnding note → StepMakes (harden channel note p)
+ending_makes channel (notes.Session partner session) p h = absurd h
+ending_makes channel (notes.Resolved unit commit operator) p h = (tt, tt)
+ending_makes channel (notes.Bound partner session last) p h = absurd h
+ending_makes channel (notes.Closed session) p h = (tt, tt)
+ending_makes channel (notes.SeqSet end last) p h = absurd h
+
+runs_up : (r : Running) → is_up r ≡ true → r ≡ Up
+runs_up Up e = refl
+runs_up (Down noted starts) e = absurd cc
+
+kept_ending : (tells : Type 0) (read : LogRead) (v new : CoreValue) → IsKept tells read v → IsUp v.plain → (channel : List ℕ) (note : Note) (result : Result (Unit {0}) (Halt Never)) → AllByRecursion IsBytes v.log.bodies → CanHarden channel note v.plain → IsEnding note
+    → MeetsOrWants (manager_of v) (harden channel note v.plain) result (manager_of new) → WritesLog v (harden channel note v.plain) result new → IsKept tells read new
+kept_ending tells reads.Unread v new k up channel note result bytes can ending m w =
+    let stands : StandsUp v.log v.plain = at_up tells reads.Unread v.log v.plain (runs_up v.plain.running up) k.log.stands in
+    kept_harden tells reads.Unread v new k up channel note result can (ending_named channel note v.plain (image_names v.plain.given Later v.log.bodies (lasting v.plain) stands.tells bytes) can ending) (ending_low note ending) m w
+kept_ending tells (reads.Known kept) v new k up channel note result bytes can ending m w = absurd (at_up tells (reads.Known kept) v.log v.plain (runs_up v.plain.running up) k.log.stands)
+kept_ending tells reads.Foreign v new k up channel note result bytes can ending m w = record {
+  well = well_harden (manager_of v) (manager_of new) k.well up channel note result can m;
+  log = foreign_keeps tells Anywhere v new (harden channel note v.plain) result m w (runs_up v.plain.running up) k.log (harden_harmless_whole channel note v.plain can) (ending_makes channel note v.plain ending);
+}
+
 -- of a manager that is up
 module _ (tells : Type 0) (read : LogRead) (v new : CoreValue) (k : IsKept tells read v) (up : IsUp v.plain) where
   kept_at : {F T : Type 0} (wants : Wants) (step : Step F T) (result : Result T (Halt F)) → MeetsAs wants (manager_of v) step result (manager_of new) → WritesLog v step result new → (IsSound v.plain → StepHarmless step v.plain)
@@ -120,9 +173,6 @@ module _ (tells : Type 0) (read : LogRead) (v new : CoreValue) (k : IsKept tells
   pub kept_prepare : (channel : List ℕ) (last : ℕ) (result : Result (Unit {0}) (Halt PrepareFault)) → CanPrepare channel v.plain → 0 < length channel → MeetsOrWants (manager_of v) (prepare channel last v.plain) result (manager_of new) → WritesLog v (prepare channel last v.plain) result new → IsKept tells read new
   kept_prepare channel last result can named m w = kept_at Anywhere (prepare channel last v.plain) result m w (λ s. prepare_harmless_whole channel last v.plain can s) (prepare_can channel last v.plain named) (well_prepare (manager_of v) (manager_of new) k.well up channel last result m)
 
-  pub kept_harden : (channel : List ℕ) (note : Note) (result : Result (Unit {0}) (Halt Never)) → CanHarden channel note v.plain → 0 < length channel → IsLowNote note → MeetsOrWants (manager_of v) (harden channel note v.plain) result (manager_of new) → WritesLog v (harden channel note v.plain) result new → IsKept tells read new
-  kept_harden channel note result can named low m w = kept_at Anywhere (harden channel note v.plain) result m w (λ s. harden_harmless_whole channel note v.plain can) (harden_can channel note v.plain named low) (well_harden (manager_of v) (manager_of new) k.well up channel note result can m)
-
   pub kept_discard : (queue : List ℕ) (ident : Ident) (result : Result (Unit {0}) (Halt Never)) → HasFreeRow queue ident v.plain → MeetsOrWants (manager_of v) (discard queue ident v.plain) result (manager_of new) → WritesLog v (discard queue ident v.plain) result new → IsKept tells read new
   kept_discard queue ident result can m w = kept_at Anywhere (discard queue ident v.plain) result m w (λ s. discard_harmless queue ident v.plain can s) (discard_can queue ident v.plain) (well_discard (manager_of v) (manager_of new) k.well up queue ident result can m)
 
@@ -136,14 +186,15 @@ module _ (tells : Type 0) (read : LogRead) (v new : CoreValue) (k : IsKept tells
   begun_kept : new ≡ begun_call v → IsKept tells read new
   begun_kept e = subst (IsKept tells read) (sym e) (record { well = k.well; log = k.log })
 
-  pub kept_hardened : (channel : List ℕ) (note : Note) (result : Result (Unit {0}) (Halt Never)) → CanHarden channel note v.plain → (can_harden channel note ≡ false → new ≡ begun_call v) → MeetsOrWants (manager_of v) (harden channel note v.plain) result (manager_of new)
+  pub kept_hardened : (channel : List ℕ) (note : Note) (result : Result (Unit {0}) (Halt Never)) → AllByRecursion IsBytes v.log.bodies → CanHarden channel note v.plain → (can_harden channel note ≡ false → new ≡ begun_call v) → MeetsOrWants (manager_of v) (harden channel note v.plain) result (manager_of new)
       → WritesLog v (harden channel note v.plain) result new → IsKept tells read new
-  kept_hardened channel note result can unfit m w = by (has_name channel) (is_low note) refl refl
+  kept_hardened channel note result bytes can unfit m w = by (is_ending note) (has_name channel) (is_low note) refl refl refl
     where
-      by : (a b : Bool) → has_name channel ≡ a → is_low note ≡ b → IsKept tells read new
-      by false b e f = begun_kept (unfit (ap (λ (x : Bool). x && is_low note) e))
-      by true false e f = begun_kept (unfit (ap (λ (x : Bool). x && is_low note) e ∙ f))
-      by true true e f = kept_harden channel note result can (named_is channel e) (low_is note f) m w
+      by : (c a b : Bool) → is_ending note ≡ c → has_name channel ≡ a → is_low note ≡ b → IsKept tells read new
+      by true a b g e f = kept_ending tells read v new k up channel note result bytes can (ending_is note g) m w
+      by false false b g e f = begun_kept (unfit (ap (λ (x : Bool). x || (has_name channel && is_low note)) g ∙ ap (λ (x : Bool). x && is_low note) e))
+      by false true false g e f = begun_kept (unfit (ap (λ (x : Bool). x || (has_name channel && is_low note)) g ∙ ap (λ (x : Bool). x && is_low note) e ∙ f))
+      by false true true g e f = kept_harden tells read v new k up channel note result can (named_is channel e) (low_is note f) m w
 
   pub kept_prepared : (channel : List ℕ) (last : ℕ) (result : Result (Unit {0}) (Halt PrepareFault)) → CanPrepare channel v.plain → (has_name channel ≡ false → new ≡ begun_call v) → MeetsOrWants (manager_of v) (prepare channel last v.plain) result (manager_of new)
       → WritesLog v (prepare channel last v.plain) result new → IsKept tells read new

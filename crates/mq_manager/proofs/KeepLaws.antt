@@ -2,6 +2,7 @@
 -- restart asks.
 use Rattle.std.proofs.Common.{◌≡◌, ℕ, zero, suc, ◌<◌, Bool, true, false, List, [], ◌∷◌, ◌++◌, length, refl, ap, arith, sym, subst, ◌∙◌}
 use Rattle.std.specs.Prelude.{Option, Some, None, Result, Ok, Err, is_some}
+use Rattle.std.specs.List.{AllByRecursion}
 use Rattle.mq_calls.specs.declared.commands.Halt.TheVariants as halts
 use Rattle.mq_calls.specs.State.{Given, Running, LogState as PlainLog}
 use Rattle.mq_calls.specs.State.Running.{Up, Down}
@@ -17,7 +18,7 @@ use Rattle.mq_spec_log.specs.Bodies.{image}
 use Rattle.mq_law_log.specs.Keeps.{Keeps}
 use Rattle.mq_law_log.specs.Restarts.{AllHarmless, StepHarmless, IsHarmless, IsGivenIn}
 use Rattle.mq_law_manager.specs.Facts.{IsSound}
-use Rattle.mq_law_image.specs.Values.{AreObjectTexts}
+use Rattle.mq_law_image.specs.Values.{AreObjectTexts, IsMade, StepMakes}
 use Rattle.mq_law_image.proofs.Made.{part_texts}
 use Rattle.mq_core.specs.Values.{CoreValue, LogBodies, WritesLog, manager_of, behind_record, pending_record, wrote_all, broke_at}
 use Rattle.mq_restart.specs.declared.reading.LogRead.{LogRead}
@@ -133,14 +134,24 @@ stands_broken tells (suc n) (part ∷ parts) left p first bodies w s h b = by (�
         (again (bodies ++ record_bytes x ∷ []) (forced_stands first bodies x part p s e r h.0 h.1))
 
 -- its objects have values that commands give
-texts_all : (parts : List Part) (p : Plain) → AllHarmless parts p → AllCanBeRead parts → AreObjectTexts p.definitions → AreObjectTexts (do_all parts p).definitions
-texts_all [] p h k t = t
-texts_all (part ∷ parts) p h k t = texts_all parts (do_part part p) h.2 k.1 (part_texts part p h.0.keeps (made_in part.forced k.0) t)
+AllMade : List Part → Type 0
+AllMade parts = AllByRecursion (λ (part : Part). IsMade part.forced) parts
 
-texts_stopped : (n : ℕ) (parts : List Part) (left : ℕ) (p : Plain) → AllHarmless parts p → AllCanBeRead parts → AreObjectTexts p.definitions → AreObjectTexts (stopped_at n parts left p).definitions
+all_made : (parts : List Part) → AllCanBeRead parts → AllMade parts
+unfolding AllMade
+all_made [] k = tt
+all_made (part ∷ parts) k = (made_in part.forced k.0, all_made parts k.1)
+
+texts_all : (parts : List Part) (p : Plain) → AllHarmless parts p → AllMade parts → AreObjectTexts p.definitions → AreObjectTexts (do_all parts p).definitions
+unfolding AllMade
+texts_all [] p h k t = t
+texts_all (part ∷ parts) p h k t = texts_all parts (do_part part p) h.2 k.1 (part_texts part p h.0.keeps k.0 t)
+
+texts_stopped : (n : ℕ) (parts : List Part) (left : ℕ) (p : Plain) → AllHarmless parts p → AllMade parts → AreObjectTexts p.definitions → AreObjectTexts (stopped_at n parts left p).definitions
+unfolding AllMade
 texts_stopped n [] left p h k t = t
 texts_stopped zero (part ∷ parts) left p h k t = t
-texts_stopped (suc n) (part ∷ parts) left p h k t = texts_stopped n parts left (do_part part p) h.2 k.1 (part_texts part p h.0.keeps (made_in part.forced k.0) t)
+texts_stopped (suc n) (part ∷ parts) left p h k t = texts_stopped n parts left (do_part part p) h.2 k.1 (part_texts part p h.0.keeps k.0 t)
 
 -- a log of a manager that is up has a body
 record HasBodies (log : LogBodies) : Type 0 where
@@ -183,7 +194,7 @@ plain_is : {v w : ManagerValue} → v ≡ w → v.plain ≡ w.plain
 plain_is e = ap (λ (x : ManagerValue). x.plain) e
 
 -- one that does something
-at_up : (tells : Type 0) (read : LogRead) (log : LogBodies) (p : Plain) → p.running ≡ Up → LogStands tells read log p → LogStandsAt tells read Up log p
+pub at_up : (tells : Type 0) (read : LogRead) (log : LogBodies) (p : Plain) → p.running ≡ Up → LogStands tells read log p → LogStandsAt tells read Up log p
 at_up tells read log p e s = subst (λ (r : Running). LogStandsAt tells read r log p) e s
 
 done_keeps : {F T : Type 0} (tells : Type 0) (read : LogRead) (wants : Wants) (v new : CoreValue) (reply : T) (parts : List Part) (result : Result T (Halt F)) → MeetsDone wants (manager_of v) reply parts result (manager_of new) → WritesLog v (Do reply parts) result new
@@ -196,7 +207,7 @@ done_keeps tells read wants v new reply parts (Ok value) m w up h a k =
     (at_up tells read v.log v.plain up h.stands) in
     subst (λ (p : Plain). HasLog tells read new.log p) (sym plain)
     (subst (λ (l : LogBodies). HasLog tells read l (do_all parts v.plain)) (sym w.0)
-    (record { texts = texts_all parts v.plain a k h.texts; stands = subst (λ (r : Running). LogStandsAt tells read r (wrote_all parts v.log) (do_all parts v.plain)) (sym (runs_all parts v.plain ∙ up)) stands }))
+    (record { texts = texts_all parts v.plain a (all_made parts k) h.texts; stands = subst (λ (r : Running). LogStandsAt tells read r (wrote_all parts v.log) (do_all parts v.plain)) (sym (runs_all parts v.plain ∙ up)) stands }))
 done_keeps tells read wants v new reply parts (Err (halts.Refused reason)) m w up h a k = absurd m
 done_keeps tells read Nowhere v new reply parts (Err halts.NoMemory) m w up h a k = absurd m
 done_keeps tells read Behind v new reply parts (Err halts.NoMemory) m w up h a k = same_log tells read v new (plain_is m) w h
@@ -210,7 +221,30 @@ done_keeps tells read wants v new reply parts (Err (halts.Stopped by)) m w up h 
     (at_up tells read v.log v.plain up h.stands) in
     subst (λ (p : Plain). HasLog tells read new.log p) (sym w.plain)
     (subst (λ (l : LogBodies). HasLog tells read l (stopped_at w.part parts left v.plain)) (sym w.log)
-    (record { texts = texts_stopped w.part parts left v.plain a k h.texts; stands = stands }))
+    (record { texts = texts_stopped w.part parts left v.plain a (all_made parts k) h.texts; stands = stands }))
+
+-- Nothing is asked of the log of one that came up from bytes that were changed from outside.
+pub foreign_keeps : {F T : Type 0} (tells : Type 0) (wants : Wants) (v new : CoreValue) (step : Step F T) (result : Result T (Halt F)) → MeetsAs wants (manager_of v) step result (manager_of new) → WritesLog v step result new
+    → v.plain.running ≡ Up → HasLog tells reads.Foreign v.log v.plain → StepHarmless step v.plain → StepMakes step → HasLog tells reads.Foreign new.log new.plain
+unfolding AllMade
+foreign_keeps tells wants v new (Refuse reason) (Ok value) m w up h a k = absurd m
+foreign_keeps tells wants v new (Refuse reason) (Err (halts.Refused other)) m w up h a k = same_log tells reads.Foreign v new (plain_is m.1) w h
+foreign_keeps tells Nowhere v new (Refuse reason) (Err halts.NoMemory) m w up h a k = absurd m
+foreign_keeps tells Behind v new (Refuse reason) (Err halts.NoMemory) m w up h a k = absurd m
+foreign_keeps tells Anywhere v new (Refuse reason) (Err halts.NoMemory) m w up h a k = same_log tells reads.Foreign v new (plain_is m) w h
+foreign_keeps tells wants v new (Refuse reason) (Err (halts.Stopped by)) m w up h a k = absurd m
+foreign_keeps tells wants v new (Do reply parts) (Ok value) m w up h a k =
+    let untold = at_up tells reads.Foreign v.log v.plain up h.stands in
+    subst (λ (p : Plain). HasLog tells reads.Foreign new.log p) (sym (plain_is m.3)) (record { texts = texts_all parts v.plain a k h.texts; stands = foreign_any tells (do_all parts v.plain).running new.log (do_all parts v.plain) untold })
+foreign_keeps tells wants v new (Do reply parts) (Err (halts.Refused reason)) m w up h a k = absurd m
+foreign_keeps tells Nowhere v new (Do reply parts) (Err halts.NoMemory) m w up h a k = absurd m
+foreign_keeps tells Behind v new (Do reply parts) (Err halts.NoMemory) m w up h a k = same_log tells reads.Foreign v new (plain_is m) w h
+foreign_keeps tells Anywhere v new (Do reply parts) (Err halts.NoMemory) m w up h a k = same_log tells reads.Foreign v new (plain_is m) w h
+foreign_keeps tells wants v new (Do reply parts) (Err (halts.Stopped by)) m w up h a k =
+    let untold = at_up tells reads.Foreign v.log v.plain up h.stands in
+    let left = new.plain.log.armed in
+    subst (λ (p : Plain). HasLog tells reads.Foreign new.log p) (sym w.plain)
+    (record { texts = texts_stopped w.part parts left v.plain a k h.texts; stands = foreign_any tells (stopped_at w.part parts left v.plain).running new.log (stopped_at w.part parts left v.plain) untold })
 
 -- one of a manager that is down
 idle_keeps : {F T : Type 0} (tells : Type 0) (read : LogRead) (wants : Wants) (v new : CoreValue) (reply : T) (parts : List Part) (result : Result T (Halt F)) → MeetsDone wants (manager_of v) reply parts result (manager_of new) → WritesLog v (Do reply parts) result new

@@ -7,6 +7,7 @@ pub mod TellLaws
 pub mod AgentLaws
 pub mod ReadableLaws
 pub mod BackLaws
+pub mod NamedLaws
 pub mod KeepLaws
 pub mod CallLaws
 pub mod AsideLaws

@@ -16,10 +16,11 @@ use Rattle.mq_law_manager.proofs.StockStarts.{image_stocked}
 use Rattle.mq_law_image.specs.Values.{AreObjectTexts}
 use Rattle.mq_core.specs.Values.{CoreValue}
 use Rattle.mq_restart.specs.declared.reading.LogRead.{LogRead}
-use Rattle.mq_restart.specs.declared.reading.Returned.{Returned}
 use Rattle.mq_restart.specs.declared.reading.Unreturned.{Unreturned}
-use Rattle.mq_restart.specs.Returned.{IsOfImage, CameUp, Stayed}
+use Rattle.mq_restart.specs.Returned.{IsOfImage, Stayed}
 use Rattle.mq_restart.specs.Stands.{LogStands}
+use Rattle.mq_restarts.specs.declared.restarting.Back.{Back}
+use Rattle.mq_restarts.specs.Backs.{IsBack}
 use Rattle.mq_manager.specs.Facts.{IsWell}
 use Rattle.mq_manager.specs.Kept.{IsKept}
 use Rattle.mq_manager.proofs.WellLaws.{true_false}
@@ -31,8 +32,8 @@ well_image p o =
     let s : IsSound q = begun_sound p.given (raised 0 o.told) o.log p.moment (image_rests p.given o.told o.well o.known) (image_stocked p.given.number o.told o.well o.known) in
     subst IsWell (sym o.plain) (record { up = λ u. s; rest = sound_still q s; limit = o.texts.own.max_message_length.1; batches = tt })
 
-kept_came : (tells : Type 0) (read : LogRead) (p : Plain) (r : Returned) (new : CoreValue) → CameUp tells p r new → LogStands tells read new.log new.plain → IsKept tells read new
-kept_came tells read p r new c s = record {
+kept_came : (tells : Type 0) (read : LogRead) (p : Plain) (b : Back) (new : CoreValue) → IsBack tells p b new → LogStands tells read new.log new.plain → IsKept tells read new
+kept_came tells read p b new c s = record {
   well = well_image new.plain c.image;
   log = record { texts = subst (λ (q : Plain). AreObjectTexts q.definitions) (sym c.image.plain) c.image.texts; stands = s };
 }
@@ -79,7 +80,7 @@ kept_stayed tells read after v new e s stands k =
       };
     }
 
-pub kept_restart : (tells : Type 0) (read after : LogRead) (v new : CoreValue) (result : Result Returned Unreturned) → IsKept tells read v
-    → MatchResult result (λ (r : Returned). CameUp tells v.plain r new) (λ (e : Unreturned). Stayed tells v.plain v.faults e new) → LogStands tells after new.log new.plain → IsKept tells after new
-kept_restart tells read after v new (Ok r) k m s = kept_came tells after v.plain r new m s
+pub kept_restart : (tells : Type 0) (read after : LogRead) (v new : CoreValue) (result : Result Back Unreturned) → IsKept tells read v
+    → MatchResult result (λ (b : Back). IsBack tells v.plain b new) (λ (e : Unreturned). Stayed tells v.plain v.faults e new) → LogStands tells after new.log new.plain → IsKept tells after new
+kept_restart tells read after v new (Ok b) k m s = kept_came tells after v.plain b new m s
 kept_restart tells read after v new (Err e) k m s = kept_stayed tells read after v new e m s k

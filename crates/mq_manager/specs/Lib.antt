@@ -3,4 +3,5 @@ pub mod Facts
 pub mod Limits
 pub mod Tells
 pub mod Reads
+pub mod Named
 pub mod Kept

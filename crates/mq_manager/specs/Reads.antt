@@ -1,6 +1,6 @@
 -- What must hold of a record beside its fields so that a later start reads it from its bytes: its channel, if it is of one, has a
 -- name; the text of what it changes of objects is read; its session is below 2^61.
-use Rattle.std.specs.Prelude.{ℕ, ◌<◌, ◌^◌, nat_lt, Bool, true, ◌&&◌, List, length, Option, Some, None}
+use Rattle.std.specs.Prelude.{ℕ, ◌<◌, ◌^◌, nat_lt, Bool, true, false, ◌&&◌, ◌||◌, List, length, Option, Some, None}
 use Rattle.std.specs.List.{AllByRecursion}
 use Rattle.mq_calls.specs.declared.records.LogRecord.{LogRecord}
 use Rattle.mq_calls.specs.declared.records.LogRecord.TheVariants as records
@@ -39,6 +39,17 @@ abbrev pub IsLowNote : Note → Type 0
 IsLowNote (notes.Session partner session) = session < 2 ^ 61
 IsLowNote _ = Unit {0}
 
+-- it closes a session, or settles a unit in doubt
+abbrev pub IsEnding : Note → Type 0
+IsEnding (notes.Resolved unit commit operator) = Unit {0}
+IsEnding (notes.Closed session) = Unit {0}
+IsEnding _ = ⊥
+
+abbrev pub is_ending : Note → Bool
+is_ending (notes.Resolved unit commit operator) = true
+is_ending (notes.Closed session) = true
+is_ending _ = false
+
 -- so the code asks: a channel has a name, and what it hardens is read
 abbrev pub has_name : List ℕ → Bool
 has_name channel = nat_lt 0 (length channel)
@@ -47,5 +58,6 @@ abbrev pub is_low : Note → Bool
 is_low (notes.Session partner session) = nat_lt session (2 ^ 61)
 is_low _ = true
 
+-- what can be closed or settled has a name
 abbrev pub can_harden : List ℕ → Note → Bool
-can_harden channel note = has_name channel && is_low note
+can_harden channel note = is_ending note || (has_name channel && is_low note)

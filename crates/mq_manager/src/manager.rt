@@ -12,15 +12,16 @@ ghost use Rattle.mq_steer.specs.Quiet.{quietly, Comes};
 ghost use Rattle.mq_spec_manager.specs.Words.{last_moment};
 ghost use Rattle.mq_restart.specs.Begun.{given_by, HasBegun, HasNotBegun};
 ghost use Rattle.mq_law_image.specs.Values.{IsCommandText};
-ghost use Rattle.mq_restart.specs.Returned.{CameUp, Passes, Stayed};
-ghost use Rattle.mq_restart.specs.Stands.{CanStart};
+ghost use Rattle.mq_restart.specs.Returned.{Passes, Stayed};
+ghost use Rattle.mq_restarts.specs.Backs.{IsBack};
 ghost use Rattle.mq_manager.specs.Due.{next_due};
 ghost use Rattle.mq_manager.specs.Facts.{IsWell, MayCount};
+ghost use Rattle.mq_manager.specs.Reads.{IsEnding};
 ghost use Rattle.mq_steer.specs.Turns.{halted};
 ghost use Rattle.mq_spec_manager.specs.Words.{mqconn, mqopen, mqclose, mqput, mqput1, mqget, mqcmit, mqback, mqdisc};
 
 use crate::limit::command_that_fits;
-use crate::notes::{harden_note, prepare_named, receive_named};
+use crate::notes::{harden_note, log_is_bytes, prepare_named, receive_named};
 use mq_agents::Hardened;
 use mq_base::{ChName, NoMemory, QName};
 use mq_calls::{
@@ -32,7 +33,8 @@ use mq_core::Core;
 use mq_disk::{Cutter, Disk};
 use mq_message::{Dest, Ident, Md, Message, Place};
 use mq_objects::{Command, Defs};
-use mq_restart::{LogRead, Returned, Unbegun, Unreturned};
+use mq_restart::{LogRead, Unbegun, Unreturned};
+use mq_restarts::Back;
 use mq_sync::{Stock, Unit};
 use std::alloc::Global;
 use std::marker::Model;
@@ -309,19 +311,20 @@ impl<D: Disk> Manager<D> {
     }
 
     /// Restarts a manager that is down: it comes up from its log alone, as a first start does. Where the log holds the write that
-    /// was stopped, what that did is told. Over a disk that tells its bytes it comes up as its history says, and no log is bad.
+    /// was stopped, what that did is told. From a log that was changed from outside it goes on in an incarnation that its history
+    /// can't have begun, and the image that it took is handed out. Over a disk that tells its bytes it comes up as its history says,
+    /// and no log is bad.
     ///
     /// # Errors
     ///
     /// `Up`, where it is up. `Disk`, only where the disk's count rose; `Cut`, at the armed device call; `BadLog`, with the place of
-    /// the gate at fault; `NoMemory`. It is then as before, but that the calls made count for an armed cut; after `NoMemory` that is
-    /// armed again as it was.
-    pub fn restart(&mut self) -> Result<Returned, Unreturned>
-        requires low { CanStart self.old.plain }
-        ensures ends { MatchResult result (λ r. CameUp D.tells self.old.plain r self.new) (λ e. Stayed D.tells self.old.plain self.old.faults e self.new) }
+    /// the gate at fault; `NoMemory`, also where a number has become so high that no restart would read it. It is then as before, but
+    /// that the calls made count for an armed cut; after `NoMemory` that is armed again as it was.
+    pub fn restart(&mut self) -> Result<Back, Unreturned>
+        ensures ends { MatchResult result (λ b. IsBack D.tells self.old.plain b self.new) (λ e. Stayed D.tells self.old.plain self.old.faults e self.new) }
         ensures passes { Passes self.old self.new }
     {
-        mq_restart::restart(&mut self.core, &mut self.read)
+        mq_restarts::restart(&mut self.core, &mut self.read)
     }
 
     /// What this manager's ends of a channel have hardened; none exactly where nothing was hardened yet. It takes no memory.
@@ -378,14 +381,15 @@ impl<D: Disk> Manager<D> {
         mq_agents::leave(&mut self.core, channel);
     }
 
-    /// Whether a receiver is bound from now on. Only a first bond of a channel takes memory.
+    /// Whether a receiver is bound from now on. Only a first bond of a channel takes memory: to end one takes none.
     ///
     /// # Errors
     ///
-    /// No memory; nothing has changed.
+    /// No memory, of a bond that begins; nothing has changed.
     pub fn set_bound(&mut self, channel: &ChName, bound: bool) -> Result<(), NoMemory>
         requires up { IsUp self.old.plain }
         ensures meets { MeetsOrWants (manager_of self.old) (set_bound channel.now bound self.old.plain) (by_memory result) (manager_of self.new) }
+        ensures room { bound ≡ false → MeetsInRoom (manager_of self.old) (set_bound channel.now bound self.old.plain) (by_memory result) (manager_of self.new) }
         ensures told { WritesLog self.old (set_bound channel.now bound self.old.plain) (by_memory result) self.new }
     {
         mq_agents::set_bound(&mut self.core, channel, bound)
@@ -449,13 +453,16 @@ impl<D: Disk> Manager<D> {
     /// # Errors
     ///
     /// The disk or the cut stopped the write, and the manager is down; no memory, and nothing has changed: also where the channel's
-    /// name is blank, or a session comes to 2^61, which no restart would read.
+    /// name is blank, or a session comes to 2^61, which no restart would read. `Closed` and `Resolved` take no memory, and never lack
+    /// it: their room was made as the session or the unit was hardened.
     pub fn harden(&mut self, channel: &ChName, note: &Note) -> Result<(), AgentStop>
         requires up { IsUp self.old.plain }
         requires can { CanHarden channel.now note.now self.old.plain }
         ensures meets { MeetsOrWants (manager_of self.old) (harden channel.now note.now self.old.plain) (by_agent result) (manager_of self.new) }
+        ensures room { IsEnding note.now → MeetsInRoom (manager_of self.old) (harden channel.now note.now self.old.plain) (by_agent result) (manager_of self.new) }
         ensures told { WritesLog self.old (harden channel.now note.now self.old.plain) (by_agent result) self.new }
     {
+        log_is_bytes(&self.core);
         harden_note(&mut self.core, channel, note)
     }
 

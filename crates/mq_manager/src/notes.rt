@@ -1,22 +1,32 @@
 //! What channel ends write, of channels whose names are not blank and with sessions that a restart reads.
-ghost use Rattle.mq_calls.specs.Words.{MeetsOrWants};
+ghost use Rattle.mq_calls.specs.Words.{MeetsInRoom, MeetsOrWants};
 ghost use Rattle.std.specs.Prelude.{◌≡◌, false};
-ghost use Rattle.mq_spec_manager.specs.Agents.{IsUp, CanPrepare, harden, prepare, receive};
+ghost use Rattle.std.specs.List.{AllByRecursion};
+ghost use Rattle.mq_frame.specs.Reading.{IsBytes};
+ghost use Rattle.mq_spec_manager.specs.Agents.{IsUp, CanHarden, CanPrepare, harden, prepare, receive};
 ghost use Rattle.mq_agents.specs.Ends.{by_agent, by_place, by_prepare};
 ghost use Rattle.mq_law_manager.specs.Facts.{Sound, AreNamed};
 ghost use Rattle.mq_core.specs.Counting.{CanCount};
 ghost use Rattle.mq_core.specs.Values.{WritesLog, begun_call, manager_of};
-ghost use Rattle.mq_manager.specs.Reads.{has_name, is_low, can_harden};
+ghost use Rattle.mq_manager.specs.Reads.{IsEnding, has_name, is_ending, is_low, can_harden};
 
 use mq_base::ChName;
 use mq_calls::{AgentStop, Note, PlaceFault, PrepareFault};
 use mq_core::Core;
 use mq_disk::Disk;
 use mq_message::Message;
+use mq_restart::bodies_are_bytes;
 use mq_sync::{End, Unit};
 
 /// The first session that no restart would read.
 const HIGH_SESSION: u64 = 2_305_843_009_213_693_952;
+
+/// The bodies of a manager's log are bytes. It does nothing.
+pub fn log_is_bytes<D: Disk>(core: &Core<D>)
+    ensures { AllByRecursion IsBytes core.now.log.bodies }
+{
+    bodies_are_bytes(&core.parts.log);
+}
 
 fn has_name(channel: &ChName) -> bool
     ensures { result ≡ has_name channel.now }
@@ -36,13 +46,26 @@ fn is_low(note: &Note) -> bool
     }
 }
 
+fn is_ending(note: &Note) -> bool
+    ensures { result ≡ is_ending note.now }
+{
+    match note {
+        Note::Session { .. } => false,
+        Note::Resolved { .. } => true,
+        Note::Bound { .. } => false,
+        Note::Closed { .. } => true,
+        Note::SeqSet { .. } => false,
+    }
+}
+
 fn can_harden(channel: &ChName, note: &Note) -> bool
     ensures { result ≡ can_harden channel.now note.now }
 {
-    has_name(channel) && is_low(note)
+    is_ending(note) || has_name(channel) && is_low(note)
 }
 
-/// A channel's end hardens a note; where no restart would read its record, there is no memory for it.
+/// A channel's end hardens a note; where no restart would read its record, there is no memory for it. A session is closed, and a unit
+/// in doubt settled, without memory.
 #[tactic(auto, using(crate::proofs::WantLaws::harden_wants, crate::proofs::WantLaws::harden_untold))]
 pub fn harden_note<D: Disk>(
     core: &mut Core<D>,
@@ -52,7 +75,9 @@ pub fn harden_note<D: Disk>(
     requires up { IsUp core.old.plain }
     requires sound { Sound core.old.plain }
     requires named { AreNamed core.old.plain.queues }
+    requires can { CanHarden channel.now note.now core.old.plain }
     ensures meets { MeetsOrWants (manager_of core.old) (harden channel.now note.now core.old.plain) (by_agent result) (manager_of core.new) }
+    ensures room { IsEnding note.now → MeetsInRoom (manager_of core.old) (harden channel.now note.now core.old.plain) (by_agent result) (manager_of core.new) }
     ensures told { WritesLog core.old (harden channel.now note.now core.old.plain) (by_agent result) core.new }
     ensures unfit { can_harden channel.now note.now ≡ false → core.new ≡ begun_call core.old }
 {
@@ -111,7 +136,9 @@ fn harden_kind<D: Disk>(core: &mut Core<D>, channel: &ChName, note: &Note) -> Re
     requires up { IsUp core.old.plain }
     requires sound { Sound core.old.plain }
     requires named { AreNamed core.old.plain.queues }
+    requires can { CanHarden channel.now note.now core.old.plain }
     ensures meets { MeetsOrWants (manager_of core.old) (harden channel.now note.now core.old.plain) (by_agent result) (manager_of core.new) }
+    ensures room { IsEnding note.now → MeetsInRoom (manager_of core.old) (harden channel.now note.now core.old.plain) (by_agent result) (manager_of core.new) }
     ensures told { WritesLog core.old (harden channel.now note.now core.old.plain) (by_agent result) core.new }
 {
     match note {

@@ -12,7 +12,7 @@ use Rattle.mq_calls.specs.declared.state.Item.TheVariants.{Put}
 use Rattle.mq_log.specs.State.{LogState}
 use Rattle.mq_place.specs.States.{QueueState, queues_of, state_in, change_state, on_queues, expecting, unpended}
 use Rattle.mq_core.specs.Views.{PartsValue, plain_of}
-use Rattle.mq_core.specs.Ties.{TiedBut, Tied, IsReady, HasCounts, AreCounted, mode_is_up, state_lanes, pending_at, one_if, times_in_rows, times_in_queues, times_in_units}
+use Rattle.mq_core.specs.Ties.{TiedBut, Tied, EndsReady, IsReady, HasCounts, AreCounted, mode_is_up, state_lanes, pending_at, one_if, times_in_rows, times_in_queues, times_in_units}
 use Rattle.mq_core.specs.Placing.{with_states, put_in_place}
 use Rattle.mq_core.proofs.PlaceLaws.{name_is, same_name, ready, tied_placed, placed_view, seen_kept, pending_changed}
 use Rattle.mq_core.proofs.ForceLaws.{seen_on, times_on, times_keep}
@@ -52,6 +52,7 @@ pub record OnMove (from : List ℕ) (i : Ident) (queue : List ℕ) (x w : PartsV
   pub same : w ≡ record (removed_one from i (with_states (change_state queue expecting x.queues.states) x)) { log = w.log; body = w.body }
   pub live : w.log.live ≡ x.log.live
   pub settled : w.log.pending ≡ x.log.pending
+  pub spare : w.log.spare ≡ x.log.spare
   pub reserved : w.log.reserved ≡ x.log.reserved
   pub max : w.log.max ≡ x.log.max
   pub room : mode_is_up x.mode ≡ true → x.log.reserved ≤ w.log.room
@@ -108,7 +109,7 @@ tied_on_move from i queue m row x w there found ident o t =
     let same = queues_same queue expecting (λ s. refl) x.queues.states in
     let one = there_is i (queue_in from (queues_of x.queues.states)).rows row found in
     subst (TiedBut (Put queue m ∷ [])) (sym o.same) (record {
-      up = λ u. let old = t.up u in record { live = o.live ∙ old.live; settled = o.settled ∙ old.settled; room = let a = o.room u in omega (arith, a, o.reserved); body = let a = o.body u in omega (arith, a, o.reserved) };
+      up = λ u. let old = t.up u in record { live = o.live ∙ old.live; settled = o.settled ∙ old.settled; ends = subst (EndsReady x.ends) (sym o.spare) old.ends; room = let a = o.room u in omega (arith, a, o.reserved); body = let a = o.body u in omega (arith, a, o.reserved) };
       reserved = λ u. o.reserved ∙ t.reserved u;
       within = λ u. let w = t.within u in omega (arith, o.reserved, o.max, w);
       queues = record {
@@ -222,6 +223,7 @@ move_free from i queue x y e t =
       same = ap (put_out from i y.log y.body) e.same;
       live = ap (λ (l : LogState). l.live) is;
       settled = ap (λ (l : LogState). l.pending) is;
+      spare = ap (λ (l : LogState). l.spare) is;
       reserved = ap (λ (l : LogState). l.reserved) is;
       max = ap (λ (l : LogState). l.max) is;
       room = λ u. let w = (t.up u).room in omega (arith, w, e.more);
@@ -240,6 +242,7 @@ move_forced from i queue n r x y z en e f t =
       same = ap (λ (v : PartsValue). removed_one from i (with_rest z.log (given_back n z).body v)) (f.same ∙ ap (with_rest z.log z.body) e.same);
       live = ap (λ (l : LogState). l.live) wrote ∙ ap (λ (l : LogState). l.live) is;
       settled = ap (λ (l : LogState). l.pending) wrote ∙ ap (λ (l : LogState). l.pending) is;
+      spare = ap (λ (l : LogState). l.spare) wrote ∙ ap (λ (l : LogState). l.spare) is;
       reserved = ap (λ (l : LogState). l.reserved) wrote ∙ ap (λ (l : LogState). l.reserved) is;
       max = ap (λ (l : LogState). l.max) wrote ∙ ap (λ (l : LogState). l.max) is;
       room = λ u. omega (arith, f.room, e.log, en);

@@ -1,5 +1,5 @@
 -- The objects and local queues that an image tells, as a manager keeps them, and how they are built one after another.
-use Rattle.std.specs.Prelude.{◌≡◌, ℕ, ◌<◌, ◌≤◌, ◌^◌, Bool, false, List, [], ◌∷◌, ◌++◌, length, map, Option, Some, None, IfSome, All, AllPairs}
+use Rattle.std.specs.Prelude.{◌≡◌, ℕ, ◌<◌, ◌≤◌, ◌^◌, Bool, false, List, [], ◌∷◌, ◌++◌, length, map, sum_by, Option, Some, None, IfSome, All, AllPairs}
 use Rattle.std.specs.Str.{bytes_eq}
 use Rattle.mq_message.specs.declared.message.Ident.{Ident}
 use Rattle.mq_message.specs.declared.place.Holder.{Holder}
@@ -15,7 +15,8 @@ use Rattle.mq_calls.specs.Changes.{held_in, lane_of}
 use Rattle.mq_calls.specs.Images.{queue_on}
 use Rattle.mq_calls.specs.declared.image.Image.{Image}
 use Rattle.mq_calls.specs.declared.image.Shelf.{Shelf}
-use Rattle.mq_calls.specs.Recovery.{AreApart}
+use Rattle.mq_calls.specs.declared.state.SenderSide.{SenderSide}
+use Rattle.mq_calls.specs.Recovery.{AreApart, listed}
 use Rattle.mq_rebuild.specs.declared.building.Built.{Built}
 use Rattle.mq_place.specs.States.{QueueState, state_in, change_state, on_queues, fresh_state, expecting, arrived, CanPlace, IsNowhere}
 
@@ -85,10 +86,11 @@ pub record IsRead (d : Definitions) (shelves : List Shelf) : Type 0 where
   pub distinct : All (λ (s : Shelf). AllPairs (λ (x y : Row). same_ident x.message.ident y.message.ident ≡ false) s.rows) shelves
   pub apart : AllPairs AreApart shelves
 
--- what a manager is built of from an image
+-- what a manager is built of from an image, with room for the rows of all its units in doubt
 pub record IsBuilt (image : Image) (b : Built) : Type 0 where
   pub defs : b.defs.definitions ≡ image.definitions
   pub queues : b.queues.states ≡ map (state_on image.definitions) image.shelves
   pub senders : b.senders ≡ image.senders
   pub receivers : b.receivers ≡ image.receivers
+  pub rows : sum_by (λ (s : SenderSide). length (listed s.hardened.in_doubt)) image.senders ≤ b.rows.room
   pub incarnation : b.incarnation ≡ image.incarnation

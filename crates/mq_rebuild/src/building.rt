@@ -5,11 +5,13 @@ ghost use Rattle.mq_rebuild.specs.Rebuilt.{IsBuilt};
 
 use crate::objects::defs_of;
 use crate::shelves::queues_of;
+use crate::sides::{receivers_of, rows_for, senders_of};
 use mq_base::{Items, NoMemory};
-use mq_calls::{Image, ReceiverSide, SenderSide};
+use mq_calls::Image;
 use mq_index::IndexedQueue;
 use mq_objects::Defs;
 use mq_place::Queues;
+use mq_sides::{KeptReceiver, KeptSender, RowRoom};
 use std::alloc::Global;
 
 /// What a manager is built of from an image.
@@ -19,10 +21,12 @@ pub struct Built {
     pub defs: Defs,
     /// Its local queues with their rows.
     pub queues: Queues<IndexedQueue>,
-    /// What each sender channel has hardened, in order of the channels' names.
-    pub senders: Items<SenderSide>,
-    /// What each receiver channel has hardened, in order of the channels' names.
-    pub receivers: Items<ReceiverSide>,
+    /// What each sender channel has hardened, in order of the channels' names, with its room.
+    pub senders: Items<KeptSender>,
+    /// What each receiver channel has hardened, in order of the channels' names, with its room.
+    pub receivers: Items<KeptReceiver>,
+    /// Room for the rows of all units in doubt.
+    pub rows: RowRoom,
     /// The greatest incarnation that was started, 0 for none.
     pub incarnation: u64,
 }
@@ -53,11 +57,24 @@ pub fn build(alloc: Global, image: Image) -> Result<Built, NoMemory>
         Ok(queues) => queues,
         Err(_) => return Err(NoMemory),
     };
+    let rows = match rows_for(alloc, &senders) {
+        Ok(rows) => rows,
+        Err(_) => return Err(NoMemory),
+    };
+    let senders = match senders_of(alloc, senders) {
+        Ok(senders) => senders,
+        Err(_) => return Err(NoMemory),
+    };
+    let receivers = match receivers_of(alloc, receivers) {
+        Ok(receivers) => receivers,
+        Err(_) => return Err(NoMemory),
+    };
     Ok(Built {
         defs,
         queues,
         senders,
         receivers,
+        rows,
         incarnation,
     })
 }

@@ -5,5 +5,6 @@ mod building;
 mod objects;
 mod rows;
 mod shelves;
+mod sides;
 
 pub use building::{Built, build};

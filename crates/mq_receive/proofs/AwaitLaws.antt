@@ -11,13 +11,13 @@ use Rattle.mq_calls.specs.Words.{Plain, local_of, apply_all}
 use Rattle.mq_place.specs.States.{QueueState, QueueStates, queues_of, state_in, change_state, expecting}
 use Rattle.mq_core.specs.declared.parts.Arrival.{Arrival}
 use Rattle.mq_core.specs.Views.{PartsValue, plain_of}
-use Rattle.mq_core.specs.Ties.{Tied, AreCounted, HasCounts, mode_is_up, state_lanes, pending_at, one_if, times_in_queues, waits}
+use Rattle.mq_core.specs.Ties.{EndsReady, Tied, AreCounted, HasCounts, mode_is_up, state_lanes, pending_at, one_if, times_in_queues, waits}
 use Rattle.mq_core.specs.Placing.{with_states}
 use Rattle.mq_core.specs.Counting.{CanCount}
 use Rattle.mq_core.specs.Forced.{HasMoreRoom}
 use Rattle.mq_core.specs.Writes.{standing_of, arrival_changes}
 use Rattle.mq_core.proofs.PlaceLaws.{is_some_of, seen_kept, pending_changed}
-use Rattle.mq_core.proofs.PutLaws.{queues_same, kept_queue, counts_low}
+use Rattle.mq_core.proofs.PutLaws.{more_room, queues_same, kept_queue, counts_low}
 use Rattle.mq_receive.specs.Standings.{AreFitting}
 use Rattle.mq_receive.specs.Placed.{expected_all, unexpected_in, puts_of, TiedOnWay, IsAwaited}
 use Rattle.mq_receive.specs.Committed.{unawaited}
@@ -108,6 +108,7 @@ pub record IsOnWay (landed : List Arrival) (x w : PartsValue) : Type 0 where
   pub same : w ≡ record (with_states (expected_all landed x.queues.states) x) { ends = w.ends; log = w.log; body = w.body }
   pub live : w.log.live ≡ x.log.live
   pub settled : w.log.pending ≡ x.log.pending
+  pub ends : mode_is_up x.mode ≡ true → EndsReady w.ends w.log.spare
   pub reserved : w.log.reserved ≡ x.log.reserved
   pub max : w.log.max ≡ x.log.max
   pub room : mode_is_up x.mode ≡ true → x.log.reserved ≤ w.log.room
@@ -128,7 +129,7 @@ on_way_tied landed x w there o t =
     let kept = kept_all landed x t there in
     let same = queues_all landed x.queues.states in
     subst (TiedOnWay landed) (sym o.same) (record {
-      up = λ u. let old = t.up u in record { live = o.live ∙ old.live; settled = o.settled ∙ old.settled; room = let a = o.room u in omega (arith, a, o.reserved); body = let a = o.body u in omega (arith, a, o.reserved) };
+      up = λ u. let old = t.up u in record { live = o.live ∙ old.live; settled = o.settled ∙ old.settled; ends = o.ends u; room = let a = o.room u in omega (arith, a, o.reserved); body = let a = o.body u in omega (arith, a, o.reserved) };
       reserved = λ u. o.reserved ∙ t.reserved u;
       within = λ u. let w = t.within u in omega (arith, o.reserved, o.max, w);
       queues = record {
@@ -164,8 +165,4 @@ unfolding unawaited_by with_all
 unawaited_more landed n x y e =
     let v : QueueStates = record x.queues { states = expected_all landed x.queues.states } in
     let l : LogState = record x.log { room = y.log.room } in
-    record {
-      same = ap (unawaited_by landed) e.same ∙ ap (λ (qs : QueueStates). with_all x qs l y.body) (expected_undone landed v (unexpected_in landed v) x.queues refl refl);
-      log = e.more;
-      body = omega (arith, e.body);
-    }
+    more_room x (unawaited landed y) (ap (unawaited_by landed) e.same ∙ ap (λ (qs : QueueStates). with_all x qs l y.body) (expected_undone landed v (unexpected_in landed v) x.queues refl refl)) e.more (omega (arith, e.body))

@@ -11,7 +11,7 @@ use Rattle.mq_calls.specs.declared.state.ReceiverSide.{ReceiverSide}
 use Rattle.mq_core.specs.declared.parts.Arrival.{Arrival}
 use Rattle.mq_core.specs.declared.parts.ChannelEnds.{ChannelEnds}
 use Rattle.mq_core.specs.Views.{PartsValue, plain_of}
-use Rattle.mq_core.specs.Ties.{Tied, mode_is_up}
+use Rattle.mq_core.specs.Ties.{EndsReady, Tied, mode_is_up}
 use Rattle.mq_core.specs.Counting.{CanCount}
 use Rattle.mq_core.specs.Forced.{IsForced, HasMoreRoom}
 use Rattle.mq_core.specs.Values.{bodies_in, behind_record}
@@ -49,15 +49,20 @@ still_up landed n x y up e = ap (λ (z : PartsValue). mode_is_up z.mode) e.same 
 with_rest : ChannelEnds → LogState → Buffered → PartsValue → PartsValue
 with_rest ends log body v = record v { ends = ends; log = log; body = body }
 
-pub on_way : (landed : List Arrival) (n : ℕ) (r : LogRecord) (side : ReceiverSide) (x y z : PartsValue) → n ≡ need r → IsAwaited landed n x y → IsForced r (with_side side y) (Ok tt) z → Tied x → IsOnWay landed x (given_back n z)
-unfolding with_rest
-on_way landed n r side x y z en e f t =
+ends_by : ReceiverSide → PartsValue → ChannelEnds
+ends_by side q = with_receivers (set_receiver side q.ends.receivers) q.ends
+
+pub on_way : (landed : List Arrival) (n : ℕ) (r : LogRecord) (side : ReceiverSide) (x y z : PartsValue) → n ≡ need r → IsAwaited landed n x y → IsForced r (with_side side y) (Ok tt) z → EndsReady (with_receivers (set_receiver side x.ends.receivers) x.ends) x.log.spare → Tied x → IsOnWay landed x (given_back n z)
+unfolding with_rest ends_by
+on_way landed n r side x y z en e f k t =
     let is = ap (λ (q : PartsValue). q.log) e.same in
     let wrote = f.log in
     record {
       same = ap (with_rest z.ends z.log (given_back n z).body) f.same ∙ ap (with_rest z.ends z.log (given_back n z).body) e.same;
       live = ap (λ (l : LogState). l.live) wrote ∙ ap (λ (l : LogState). l.live) is;
       settled = ap (λ (l : LogState). l.pending) wrote ∙ ap (λ (l : LogState). l.pending) is;
+      ends = λ u. subst (EndsReady z.ends) (sym (ap (λ (l : LogState). l.spare) wrote ∙ ap (λ (l : LogState). l.spare) is))
+          (subst (λ (e : ChannelEnds). EndsReady e x.log.spare) (sym (ap (λ (q : PartsValue). q.ends) f.same ∙ ap (ends_by side) e.same)) k);
       reserved = ap (λ (l : LogState). l.reserved) wrote ∙ ap (λ (l : LogState). l.reserved) is;
       max = ap (λ (l : LogState). l.max) wrote ∙ ap (λ (l : LogState). l.max) is;
       room = λ u. omega (arith, f.room, e.log, en);
@@ -81,12 +86,12 @@ unfolding set_side log_of
 way_view landed n r side x y z up e f =
     forced_view r (with_side side y) z (still_up landed n x y up e) f ∙ ap (log_of r) (side_view side y (still_up landed n x y up e) ∙ ap (set_side side) (awaited_view landed n x y e))
 
-pub way_lands : (landed : List Arrival) (n : ℕ) (r : LogRecord) (side : ReceiverSide) (x y z : PartsValue) → mode_is_up x.mode ≡ true → n ≡ need r → IsAwaited landed n x y → IsForced r (with_side side y) (Ok tt) z → Tied x → CanCount (plain_of x) → AreFitting landed (plain_of x)
+pub way_lands : (landed : List Arrival) (n : ℕ) (r : LogRecord) (side : ReceiverSide) (x y z : PartsValue) → mode_is_up x.mode ≡ true → n ≡ need r → IsAwaited landed n x y → IsForced r (with_side side y) (Ok tt) z → EndsReady (with_receivers (set_receiver side x.ends.receivers) x.ends) x.log.spare → Tied x → CanCount (plain_of x) → AreFitting landed (plain_of x)
     → 2 * length landed + 2 < 2 ^ 64 → HasLanded landed (given_back n z)
-way_lands landed n r side x y z up en e f t low fits few =
+way_lands landed n r side x y z up en e f k t low fits few =
     let w : PartsValue = given_back n z in
     let p : Plain = plain_of x in
-    let o = on_way landed n r side x y z en e f t in
+    let o = on_way landed n r side x y z en e f k t in
     let there = defined_all landed p fits in
     let still : mode_is_up w.mode ≡ true = ap (λ (q : PartsValue). mode_is_up q.mode) f.same ∙ still_up landed n x y up e in
     lands_all (2 ^ 63 + length landed) landed w (omega (arith, few)) still (on_way_counts landed x w there o t low)

@@ -1,12 +1,13 @@
 -- The messages of a batch take their places: each can, all is tied behind them, and the plain manager has done what they do.
-use Rattle.std.proofs.Common.{◌≡◌, ℕ, ◌+◌, ◌-◌, ◌<◌, ◌≤◌, ◌^◌, Bool, true, false, cond, List, [], ◌∷◌, refl, ap, arith, sym, subst, ◌∙◌, inl, inr}
-use Rattle.std.specs.Prelude.{Option, Some, None, find, not, ◌&&◌, ◌||◌, if◌then◌else◌, flat_map}
+use Rattle.std.proofs.Common.{◌≡◌, ℕ, ◌+◌, ◌-◌, ◌<◌, ◌≤◌, ◌^◌, Bool, true, false, cond, List, [], ◌∷◌, length, refl, ap, arith, sym, subst, ◌∙◌, inl, inr}
+use Rattle.std.specs.Prelude.{Option, Some, None, find, filter, not, sum_by, ◌&&◌, ◌||◌, if◌then◌else◌, flat_map}
 use Rattle.std.specs.List.{list_any, AllByRecursion}
 use Rattle.std.specs.Str.{bytes_eq}
 use Rattle.std.proofs.lemmas.Bool.Decides.{nat_tests}
+use Rattle.std.proofs.lemmas.List.Sums.{sum_by-cons}
 use Rattle.mq_calls.specs.declared.state.Item.TheVariants.{Put, Take}
 use Rattle.mq_calls.specs.State.{Queue as StateQueue}
-use Rattle.mq_calls.specs.Words.{Ident, Message, Row, LocalQueue, Plain, Among, has_ident, same_ident, keep, kept_in, selects, queue_in, local_of, is_persistent, off_lists, puts_to, is_by_priority, condition, made_due, depth_type, apply_all}
+use Rattle.mq_calls.specs.Words.{Ident, InDoubt, Message, comes_before, less_ident, Row, LocalQueue, Plain, Among, has_ident, same_ident, keep, kept_in, selects, queue_in, local_of, is_persistent, off_list, off_lists, puts_to, is_by_priority, condition, made_due, depth_type, apply_all}
 use Rattle.mq_calls.specs.declared.state.Item.{Item}
 use Rattle.mq_calls.specs.declared.state.Connection.{Connection}
 use Rattle.mq_spec_manager.specs.Words.{placed}
@@ -15,7 +16,11 @@ use Rattle.mq_queue.specs.Queues.{Lacks}
 use Rattle.mq_place.specs.States.{QueueState, queues_of, state_in, on_queue, on_queues, arrived}
 use Rattle.mq_core.specs.declared.parts.Arrival.{Arrival}
 use Rattle.mq_core.specs.Views.{PartsValue, plain_of}
-use Rattle.mq_core.specs.Ties.{Tied, TiedIdents, IsReady, AreCounted, HasCounts, mode_is_up, one_if, times_in_rows, times_in_queues, times_in_unit, times_in_units, waits, state_lanes, local_lanes, pending_at}
+use Rattle.mq_calls.specs.Recovery.{listed}
+use Rattle.mq_calls.specs.declared.state.SenderSide.{SenderSide}
+use Rattle.mq_sides.specs.Places.{AreByName}
+use Rattle.mq_core.specs.declared.parts.ChannelEnds.{ChannelEnds}
+use Rattle.mq_core.specs.Ties.{EndsReady, doubt_bytes, Tied, TiedIdents, IsReady, AreCounted, HasCounts, mode_is_up, one_if, times_in_rows, times_in_queues, times_in_unit, times_in_units, waits, state_lanes, local_lanes, pending_at}
 use Rattle.mq_core.specs.Placing.{arrived_at, due_if, put_in_place}
 use Rattle.mq_core.specs.Writes.{standing_of, arrival_changes}
 use Rattle.mq_core.proofs.PlaceLaws.{name_is, same_name, seen_kept, pending_changed, times_changed, times_insert, nowhere_of, placed_view, arrived_there, waits_less, counts_placed}
@@ -210,7 +215,7 @@ tied_dropped landed (Some queue) i x t =
     let f : StateQueue → StateQueue = kept_in (Among queue (i ∷ [])) in
     let times = λ (k : Ident). times_on k f (λ q. times_keep k (λ (row : Row). not (selects (Among queue (i ∷ [])) q.name row)) q.rows) x.queues.states in
     record {
-      up = λ u. let w = t.up u in record { live = w.live; settled = w.settled; room = w.room; body = w.body };
+      up = λ u. let w = t.up u in record { live = w.live; settled = w.settled; ends = w.ends; room = w.room; body = w.body };
       reserved = t.reserved;
       within = t.within;
       queues = record {
@@ -226,10 +231,63 @@ tied_dropped landed (Some queue) i x t =
       moment = t.moment;
     }
 
+-- what is set aside is enough where an ident goes off the lists
+off_need : (i : Ident) (o : Option InDoubt) → doubt_bytes (less_ident i o) ≡ doubt_bytes o
+off_need i None = refl
+off_need i (Some d) = refl
+
+filter_fewer : {A : Type 0} (p : A → Bool) (xs : List A) → length (filter p xs) ≤ length xs
+filter_fewer p [] = omega arith
+filter_fewer {A} p (x ∷ xs) = by (p x) (filter_fewer p xs)
+  where
+    by : (b : Bool) → length (filter p xs) ≤ length xs → length (cond b (x ∷ filter p xs) (filter p xs)) ≤ length (x ∷ xs)
+    by true less = omega (arith, less)
+    by false less = omega (arith, less)
+
+off_rows : (i : Ident) (o : Option InDoubt) → length (listed (less_ident i o)) ≤ length (listed o)
+off_rows i None = omega arith
+off_rows i (Some d) = filter_fewer (λ (other : Ident). not (same_ident i other)) d.idents
+
+off_needs : (i : Ident) (ss : List SenderSide) → sum_by (λ (s : SenderSide). doubt_bytes s.hardened.in_doubt) (off_lists i ss) ≡ sum_by (λ (s : SenderSide). doubt_bytes s.hardened.in_doubt) ss
+off_needs i [] = refl
+off_needs i (s ∷ ss) =
+    let here : doubt_bytes (off_list i s).hardened.in_doubt ≡ doubt_bytes s.hardened.in_doubt = off_need i s.hardened.in_doubt in
+    let rest = off_needs i ss in
+    let new = sum_by-cons (λ (k : SenderSide). doubt_bytes k.hardened.in_doubt) (off_list i s) (off_lists i ss) in
+    let old = sum_by-cons (λ (k : SenderSide). doubt_bytes k.hardened.in_doubt) s ss in
+    new ∙ (λ j. here j + rest j) ∙ sym old
+
+off_all_rows : (i : Ident) (ss : List SenderSide) → sum_by (λ (s : SenderSide). length (listed s.hardened.in_doubt)) (off_lists i ss) ≤ sum_by (λ (s : SenderSide). length (listed s.hardened.in_doubt)) ss
+off_all_rows i [] = omega arith
+off_all_rows i (s ∷ ss) =
+    let here : length (listed (off_list i s).hardened.in_doubt) ≤ length (listed s.hardened.in_doubt) = off_rows i s.hardened.in_doubt in
+    let rest = off_all_rows i ss in
+    let new : sum_by (λ (k : SenderSide). length (listed k.hardened.in_doubt)) (off_lists i (s ∷ ss)) ≡ length (listed (off_list i s).hardened.in_doubt) + sum_by (λ (k : SenderSide). length (listed k.hardened.in_doubt)) (off_lists i ss)
+    = sum_by-cons (λ (k : SenderSide). length (listed k.hardened.in_doubt)) (off_list i s) (off_lists i ss) in
+    let old = sum_by-cons (λ (k : SenderSide). length (listed k.hardened.in_doubt)) s ss in
+    omega (arith, here, rest, new, old)
+
+off_mem : (i : Ident) (name : List ℕ) (ss : List SenderSide) (t : SenderSide) → ((s : SenderSide) → Mem s ss → comes_before name s.channel ≡ true) → Mem t (off_lists i ss) → comes_before name t.channel ≡ true
+off_mem i name [] t h m = absurd m
+off_mem i name (s ∷ ss) t h (inl e) = ap (λ (k : SenderSide). comes_before name k.channel) e ∙ h s (inl refl)
+off_mem i name (s ∷ ss) t h (inr m) = off_mem i name ss t (λ k n. h k (inr n)) m
+
+off_sorted : (i : Ident) (ss : List SenderSide) → AreByName (λ (s : SenderSide). s.channel) ss → AreByName (λ (s : SenderSide). s.channel) (off_lists i ss)
+off_sorted i [] h = tt
+off_sorted i (s ∷ ss) h = (λ t m. off_mem i s.channel ss t h.0 m, off_sorted i ss h.1)
+
+off_ready : (i : Ident) (e : ChannelEnds) (spare : ℕ) → EndsReady e spare → EndsReady (record e { senders = off_lists i e.senders }) spare
+off_ready i e spare w =
+    let bytes = off_needs i e.senders in
+    let rows = off_all_rows i e.senders in
+    let a = w.log in
+    let b = w.rows in
+    record { log = omega (arith, bytes, a); rows = omega (arith, rows, b); senders = off_sorted i e.senders w.senders; receivers = w.receivers }
+
 tied_undoubted : (landed : List Arrival) (b : Bool) (i : Ident) (x : PartsValue) → TiedOnWay landed x → TiedOnWay landed (undoubted_at b i x)
 tied_undoubted landed false i x t = t
 tied_undoubted landed true i x t = record {
-  up = λ u. let w = t.up u in record { live = w.live; settled = w.settled; room = w.room; body = w.body };
+  up = λ u. let w = t.up u in record { live = w.live; settled = w.settled; ends = off_ready i x.ends x.log.spare w.ends; room = w.room; body = w.body };
   reserved = t.reserved;
   within = t.within;
   queues = record { lanes = t.queues.lanes; pending = t.queues.pending };
@@ -340,7 +398,7 @@ tied_arrived a landed x r apart t =
     let m : Message = a.message in
     let times = λ (i : Ident). times_changed queue (arrived m) (λ s. refl) i (one_if (same_ident m.ident i)) (λ s. times_insert i _ s.queue.rows) x.queues.states r.state r.is in
     record {
-      up = λ u. let w = t.up u in record { live = w.live; settled = w.settled; room = w.room; body = w.body };
+      up = λ u. let w = t.up u in record { live = w.live; settled = w.settled; ends = w.ends; room = w.room; body = w.body };
       reserved = t.reserved;
       within = t.within;
       queues = record {
@@ -372,7 +430,7 @@ tied_due true queue landed x s e t =
     let f = on_queue (made_due (depth_type (local_of queue x.defs.definitions)) x.moment) in
     let times = λ (i : Ident). times_changed queue f (λ s. refl) i 0 (λ s. omega arith) x.queues.states s e in
     record {
-      up = λ u. let w = t.up u in record { live = w.live; settled = w.settled; room = w.room; body = w.body };
+      up = λ u. let w = t.up u in record { live = w.live; settled = w.settled; ends = w.ends; room = w.room; body = w.body };
       reserved = t.reserved;
       within = t.within;
       queues = record {

@@ -12,7 +12,7 @@ use Rattle.mq_spec_manager.specs.Agents.{received_record, received_part}
 use Rattle.mq_core.specs.declared.parts.Arrival.{Arrival}
 use Rattle.mq_core.specs.declared.parts.StoppedWrite.TheVariants as writes
 use Rattle.mq_core.specs.Views.{PartsValue, plain_of}
-use Rattle.mq_core.specs.Ties.{Tied}
+use Rattle.mq_core.specs.Ties.{EndsReady, Tied}
 use Rattle.mq_core.specs.Forced.{IsForced, downed}
 use Rattle.mq_core.specs.Values.{bodies_in, behind_record, pending_record}
 use Rattle.mq_core.specs.Writes.{FitsRecord, all_landed}
@@ -35,6 +35,10 @@ batch_step channel unit last landed p = Do tt (batch_part channel unit last land
 -- what the receiver has then
 abbrev pub side_after : List ℕ → Luw → ℕ → Plain → ReceiverSide
 side_after channel unit last p = record { channel = channel; hardened = record (receiver_or (receiver_data channel p)) { unit = unit; last = last } }
+
+-- the ends stay ready where the receiver of a channel takes over a unit
+abbrev pub IsReadyFor : List ℕ → PartsValue → Type 0
+IsReadyFor channel x = (side : ReceiverSide) → side.channel ≡ channel → side.hardened.closed ≡ (receiver_or (receiver_data channel (plain_of x))).closed → EndsReady (with_receivers (set_receiver side x.ends.receivers) x.ends) x.log.spare
 
 abbrev pub with_side : ReceiverSide → PartsValue → PartsValue
 with_side side x = record x { ends = with_receivers (set_receiver side x.ends.receivers) x.ends }

@@ -1,27 +1,27 @@
 //! A receiver's commit of messages that have landed: one forced record, and then they take their places.
 ghost use Rattle.std.specs.List.{AllByRecursion};
-ghost use Rattle.std.specs.Prelude.{◌≡◌, ◌+◌, ◌*◌, ◌<◌, ◌≤◌, ◌^◌, ◌∷◌, ◌++◌, [], true, length, flat_map};
-ghost use Rattle.mq_calls.specs.Words.{need};
+ghost use Rattle.std.specs.Prelude.{◌≡◌, ◌+◌, ◌*◌, ◌<◌, ◌≤◌, ◌^◌, ◌∷◌, ◌++◌, [], true, length, flat_map, IfOk, OnOk};
+ghost use Rattle.mq_calls.specs.Words.{need, receiver_data, receiver_or};
 ghost use Rattle.mq_core.specs.Counting.{CanCount};
 ghost use Rattle.mq_moves.specs.Moving.{given_back};
-ghost use Rattle.mq_core.specs.Forced.{IsForced};
-ghost use Rattle.mq_core.specs.Ties.{Tied, mode_is_up};
+ghost use Rattle.mq_core.specs.Forced.{HasMoreRoom, IsForced};
+ghost use Rattle.mq_core.specs.Ties.{EndsReady, Tied, mode_is_up};
 ghost use Rattle.mq_core.specs.Views.{plain_of};
 ghost use Rattle.mq_core.specs.Writes.{arrival_dids};
 ghost use Rattle.mq_calls.specs.declared.deltas.Did.TheVariants as did;
 ghost use Rattle.mq_receive.specs.Filling.{CanStand};
 ghost use Rattle.mq_receive.specs.Standings.{AreFitting};
-ghost use Rattle.mq_receive.specs.Committed.{batch_record, batch_part, side_after, WritesBatch, given_up, Commits};
+ghost use Rattle.mq_receive.specs.Committed.{batch_record, batch_part, side_after, IsReadyFor, WritesBatch, given_up, Commits};
 
 use crate::filling::put_received;
 use crate::placing::{place_all, tell_landed, unexpect_all};
 use crate::rooms::make_room;
-use mq_agents::{Unwritten, agent_stop, go_down};
+use mq_agents::{Unwritten, agent_stop, aside_for, go_down};
 use mq_base::{ChName, Items, NoMemory};
 use mq_calls::{AgentStop, Did, PlaceFault, ReceiverSide};
 use mq_core::{Arrival, Core, Parts, StoppedWrite};
 use mq_disk::{Disk, Stop};
-use mq_sides::{receiver_data, swap_side, undo_side};
+use mq_sides::{KeptReceiver, receiver_data, swap_side, undo_side};
 use mq_sync::{ReceiverData, Unit};
 use mq_unit::Effects;
 
@@ -52,7 +52,7 @@ fn write_received<D: Disk>(
     unit: Unit,
     last: u32,
     landed: &[Arrival],
-    side: ReceiverSide,
+    side: KeptReceiver,
 ) -> Result<(), Unwritten>
     requires live { parts.old.log.live ≡ true }
     requires room { need (batch_record channel.now unit last landed.now) ≤ parts.old.log.room }
@@ -89,6 +89,39 @@ fn side_after<D: Disk>(parts: &Parts<D>, channel: &ChName, unit: Unit, last: u32
             last,
         },
     }
+}
+
+/// The same with the room that it needs.
+fn kept_after<D: Disk>(
+    parts: &Parts<D>,
+    channel: &ChName,
+    unit: Unit,
+    last: u32,
+) -> Result<KeptReceiver, NoMemory>
+    ensures { IfOk result (λ k. k ≡ side_after channel.now unit last (plain_of parts.now)) }
+{
+    let side = side_after(parts, channel, unit, last);
+    KeptReceiver::new(parts.alloc, side)
+}
+
+/// Sets aside what the log takes when the receiver's session is closed, where nothing stood for the channel.
+pub(crate) fn aside<D: Disk>(parts: &mut Parts<D>, channel: &ChName) -> Result<(), NoMemory>
+    ensures more { HasMoreRoom parts.old parts.new }
+    ensures ready { OnOk result (EndsReady parts.old.ends parts.old.log.spare → IsReadyFor channel.now parts.new) }
+{
+    let closed = is_closed(parts, channel);
+    match aside_for(parts, channel, closed) {
+        Ok(()) => Ok(()),
+        Err(NoMemory) => Err(NoMemory),
+    }
+}
+
+/// Whether the session of a channel's receiver is closed.
+fn is_closed<D: Disk>(parts: &Parts<D>, channel: &ChName) -> bool
+    ensures { result ≡ (receiver_or (receiver_data channel.now (plain_of parts.now))).closed }
+{
+    let data = receiver_data(&parts.ends.receivers, channel);
+    data.closed
 }
 
 /// A commit that was not written: its messages wait no longer. A stopped write takes the manager down. It takes no memory.
@@ -150,6 +183,7 @@ pub(crate) fn commit<D: Disk>(
 ) -> Result<(), Unwritten>
     requires up { mode_is_up parts.old.mode ≡ true }
     requires tied { Tied parts.old }
+    requires ends { IsReadyFor channel.now parts.old }
     requires low { CanCount (plain_of parts.old) }
     requires fits { AreFitting landed (plain_of parts.old) }
     requires can { AllByRecursion CanStand landed }
@@ -157,11 +191,14 @@ pub(crate) fn commit<D: Disk>(
     requires small { bytes < 2 ^ 32 }
     ensures { Commits (batch_part channel.now unit last landed (plain_of parts.old)) (batch_record channel.now unit last landed) parts.old effects.old.dids result parts.new effects.new.dids }
 {
+    let side = match kept_after(parts, channel, unit, last) {
+        Ok(side) => side,
+        Err(NoMemory) => return Err(Unwritten::NoMemory),
+    };
     match make_room(parts, effects, landed.as_slice(), bytes) {
         Ok(()) => {}
         Err(NoMemory) => return Err(Unwritten::NoMemory),
     }
-    let side = side_after(parts, channel, unit, last);
     match write_received(parts, channel, unit, last, landed.as_slice(), side) {
         Ok(()) => {}
         Err(unwritten) => {

@@ -16,11 +16,11 @@ ghost use Rattle.mq_receive.specs.Filling.{CanStand, adds_size};
 ghost use Rattle.mq_receive.specs.Standings.{AreFitting};
 ghost use Rattle.mq_receive.specs.Committed.{batch_record, batch_step, IsNeed, IsNeeded};
 
-use crate::committing::commit;
+use crate::committing::{aside, commit};
 use crate::filling::lasts;
 use crate::planning::plan;
 use mq_agents::{Unwritten, agent_stop};
-use mq_base::{ChName, Items};
+use mq_base::{ChName, Items, NoMemory};
 use mq_calls::{AgentStop, PlaceFault};
 use mq_codes::Reason;
 use mq_core::{Arrival, Core, Parts, put_bytes};
@@ -132,6 +132,10 @@ fn commit_landed<D: Disk>(
     ensures told { WritesLog core.old (batch_step channel.now unit last landed core.old.plain) (by_place result) core.new }
 {
     core.begin_call();
+    match aside(&mut core.parts, channel) {
+        Ok(()) => {}
+        Err(NoMemory) => return Err(PlaceFault::Stop(AgentStop::NoMemory)),
+    }
     match commit(
         &mut core.parts,
         &mut core.effects,

@@ -31,17 +31,17 @@ use Rattle.mq_recover.specs.declared.recovery.RecoverFault.{RecoverFault}
 use Rattle.mq_recover.specs.declared.recovery.RecoverFault.TheVariants.{BadRecord, NoMemory}
 use Rattle.mq_rebuild.specs.declared.building.Built.{Built}
 use Rattle.mq_rebuild.specs.Rebuilt.{IsBuilt}
-use Rattle.mq_core.specs.Ties.{Tied}
+use Rattle.mq_core.specs.Ties.{Tied, ends_need}
 use Rattle.mq_core.specs.Views.{plain_of}
 use Rattle.mq_core.specs.Values.{CoreValue, LogBodies, bodies_in}
-use Rattle.mq_restart.specs.Begun.{given_by, begun_parts, begun_core, recovered_fault, IsFresh, HasOpened, IsStarted, BeginsFrom, IsReadFrom, IsUnread, HasBegun, HasNotBegun}
+use Rattle.mq_restart.specs.Begun.{given_by, begun_ends, begun_parts, begun_core, recovered_fault, IsFresh, HasOpened, IsStarted, BeginsFrom, IsReadFrom, IsUnread, HasBegun, HasNotBegun}
 use Rattle.mq_restart.proofs.LowLaws.{image_low, image_under}
 use Rattle.mq_restart.proofs.SeenLaws.{begun_seen}
 use Rattle.mq_restart.proofs.TieLaws.{begun_tied}
 
-pub has_started : (b : Built) (number : ℕ) (name bytes : List ℕ) (old roomy new : LogState) → IsFresh old.max old → roomy ≡ record old { room = roomy.room } → Appended roomy bytes (Ok tt) new → Stops roomy.armed (Ok tt) new.armed → roomy.faults ≤ new.faults
+pub has_started : (b : Built) (number : ℕ) (name bytes : List ℕ) (old roomy new : LogState) → IsFresh old.max old → roomy ≡ record old { room = roomy.room; spare = roomy.spare } → ends_need (begun_ends b) ≤ roomy.spare → Appended roomy bytes (Ok tt) new → Stops roomy.armed (Ok tt) new.armed → roomy.faults ≤ new.faults
     → bytes ≡ record_bytes (started_record (given_by number name old.max) (b.incarnation + 1)) → length bytes ≡ 58 → IsRecord (started_record (given_by number name old.max) (b.incarnation + 1)) → IsStarted (given_by number name old.max) b old new
-has_started b number name bytes old roomy new first room appended ends later are long is = record {
+has_started b number name bytes old roomy new first room aside appended ends later are long is = record {
   is = is;
   fresh = record {
     live = ap (λ (l : LogState). l.live) appended ∙ ap (λ (l : LogState). l.live) room ∙ first.live;
@@ -53,6 +53,7 @@ has_started b number name bytes old roomy new first room appended ends later are
   long = let p = log_length-push old.bodies bytes in let e = ap log_length behind in omega (arith, e, p, long);
   ends = subst (λ (n : ℕ). Stops n (Ok tt) new.armed) (ap (λ (l : LogState). l.armed) room) ends;
   later = let r = ap (λ (l : LogState). l.faults) room in omega (arith, r, later);
+  aside = let s = ap (λ (l : LogState). l.spare) appended in omega (arith, s, aside);
 }
   where
     behind : new.bodies ≡ old.bodies ++ bytes ∷ []
@@ -120,7 +121,7 @@ begins tells b number name moment old new core r none s is seen before log less 
 
 pub ties : (b : Built) (number : ℕ) (name : List ℕ) (moment : ℕ) (old new : LogState) → IsReadFrom (given_by number name old.max) First old.bodies b → IsStarted (given_by number name old.max) b old new → old.max < 2 ^ 32 → moment ≤ last_moment
     → Tied (begun_parts number name moment b new)
-ties b number name moment old new r s small late = begun_tied number name moment old.max r.told b new r.built r.well r.known s.fresh small late
+ties b number name moment old new r s small late = begun_tied number name moment old.max r.told b new r.built r.well r.known s.fresh s.aside small late
 
 -- ---- what it is refused for
 

@@ -18,7 +18,7 @@ use Rattle.mq_spec_log.specs.Applies.Start.{Later}
 use Rattle.mq_spec_log.specs.Bodies.{image, empty_image}
 use Rattle.mq_recover.specs.declared.recovery.RecoverFault.TheVariants.{BadRecord, NoMemory}
 use Rattle.mq_core.specs.Views.{PartsValue}
-use Rattle.mq_restart.specs.declared.raising.Unraised.{Unraised}
+use Rattle.mq_restart.specs.declared.reading.Unraised.{Unraised}
 use Rattle.mq_restart.specs.Raised.{given_of, with_log, HasHalted, Fell, start_fault, stop_fault, fails_as}
 use Rattle.mq_restart.specs.Raised.Fell.{Unopened, Unread, Unstarted}
 use Rattle.mq_restart.specs.Raised.HasHalted.{Wanting, Halted}

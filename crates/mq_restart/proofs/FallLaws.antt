@@ -33,7 +33,7 @@ use Rattle.mq_core.specs.declared.parts.ReadLog.{ReadLog}
 use Rattle.mq_core.specs.Views.{PartsValue, plain_of}
 use Rattle.mq_restart.specs.Begun.{given_by, IsReadFrom, IsUnread}
 use Rattle.mq_restart.specs.Tells.{Stood, LogStood, StoodBy, kept_of}
-use Rattle.mq_restart.specs.declared.raising.Unraised.{Unraised}
+use Rattle.mq_restart.specs.declared.reading.Unraised.{Unraised}
 use Rattle.mq_restart.specs.Raised.{given_of, with_log, HasHalted, Fell, start_fault, stop_fault, read_by, read_after, starts_after, fails_as}
 use Rattle.mq_restart.specs.Raised.Fell.{Unopened, Unread, Unstarted}
 use Rattle.mq_restart.specs.Raised.HasHalted.{Wanting, Halted}

@@ -19,7 +19,7 @@ use Rattle.mq_core.specs.Ties.{Tied, mode_is_up}
 use Rattle.mq_core.specs.Views.{PartsValue, plain_of, frozen_of, noted, running_of, length_of, read_length, channels_of}
 use Rattle.mq_place.specs.States.{queues_of}
 use Rattle.mq_rebuild.specs.declared.building.Built.{Built}
-use Rattle.mq_restart.specs.declared.raising.Unraised.{Unraised}
+use Rattle.mq_restart.specs.declared.reading.Unraised.{Unraised}
 use Rattle.mq_restart.specs.Raised.{with_log, given_of, HasHalted, Fell, starts_after, stop_fault}
 use Rattle.mq_restart.specs.Raised.Fell.{Unopened, Unread, Unstarted}
 use Rattle.mq_restart.specs.Raised.HasHalted.{Wanting, Halted}

@@ -9,6 +9,7 @@ pub mod ReturnLaws
 pub mod ReadLaws
 pub mod LowLaws
 pub mod SeenLaws
+pub mod AsideLaws
 pub mod TieLaws
 pub mod OpenLaws
 pub mod BeginLaws

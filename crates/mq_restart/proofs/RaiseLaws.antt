@@ -50,12 +50,13 @@ has_restarted tells x y found r some =
       bodies = s.bodies ∙ ap (λ (n : ℕ). r.log.bodies ++ record_bytes (started_record (given_by x.number x.name n) (r.built.incarnation + 1)) ∷ []) max;
       long = s.long ∙ ap (λ (n : ℕ). log_length r.log.bodies + started_need (given_by x.number x.name n)) max;
       armed = let a = one.0 in omega (arith, a, four);
+      aside = s.aside;
     }
 
 -- its own room for a record changes no tie
 pub tied_body : (x : PartsValue) (b : Buffered) → x.log.reserved ≡ 0 → Tied x → Tied (record x { body = b })
 tied_body x b none t = record {
-  up = λ u. let w = t.up u in record { live = w.live; settled = w.settled; room = w.room; body = omega (arith, none) };
+  up = λ u. let w = t.up u in record { live = w.live; settled = w.settled; ends = w.ends; room = w.room; body = omega (arith, none) };
   reserved = t.reserved;
   within = t.within;
   queues = record { lanes = t.queues.lanes; pending = t.queues.pending };

@@ -118,4 +118,4 @@ restarted_seen kept started noted starts found p b log stood r s =
 
 pub restarted_tied : (found : List (List ℕ)) (p : Plain) (b : Built) (log : LogState) → IsReadFrom p.given Later found b → HasRestarted p found b log → p.given.log_max < 2 ^ 32 → p.moment ≤ last_moment
     → Tied (begun_parts p.given.number p.given.name p.moment b log)
-restarted_tied found p b log r s small late = begun_tied p.given.number p.given.name p.moment p.given.log_max r.told b log r.built r.well r.known s.fresh small late
+restarted_tied found p b log r s small late = begun_tied p.given.number p.given.name p.moment p.given.log_max r.told b log r.built r.well r.known s.fresh s.aside small late

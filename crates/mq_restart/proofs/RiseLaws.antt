@@ -35,7 +35,7 @@ module _ (tells : Type 0) (x y : PartsValue) (found : Found) (r : Raises tells x
   pub rise_tied : Tied x → Tied y
   rise_tied t = subst Tied (sym r.raised.becomes)
       (tied_body (begun_parts x.number x.name x.moment r.built y.log) x.body fresh.free
-      (begun_tied x.number x.name x.moment x.log.max r.told.told r.built y.log r.told.built r.told.well r.told.known fresh t.max t.moment))
+      (begun_tied x.number x.name x.moment x.log.max r.told.told r.built y.log r.told.built r.told.well r.told.known fresh r.raised.started.aside t.max t.moment))
 
   -- what it is seen as
   abbrev plain_log : PlainLog

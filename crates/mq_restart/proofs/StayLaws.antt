@@ -21,7 +21,7 @@ use Rattle.mq_recover.specs.declared.recovery.RecoverFault.TheVariants.{BadRecor
 use Rattle.mq_core.specs.declared.parts.ReadLog.{ReadLog}
 use Rattle.mq_core.specs.Values.{CoreValue, LogBodies, bodies_in}
 use Rattle.mq_core.specs.Views.{PartsValue, plain_of, frozen_of, noted}
-use Rattle.mq_restart.specs.declared.raising.Unraised.{Unraised}
+use Rattle.mq_restart.specs.declared.reading.Unraised.{Unraised}
 use Rattle.mq_restart.specs.Tells.{LogStood, Stood, StoodWith, kept_of}
 use Rattle.mq_restart.specs.Raised.{given_of, with_log, HasHalted, Fell, starts_after, read_after, start_fault, stop_fault, fails_as}
 use Rattle.mq_restart.specs.Raised.Fell.{Unopened, Unread, Unstarted}

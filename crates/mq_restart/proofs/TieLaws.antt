@@ -1,6 +1,6 @@
 -- The parts of a manager that was built from an image are tied.
-use Rattle.std.proofs.Common.{◌≡◌, ℕ, suc, ◌+◌, ◌<◌, ◌≤◌, ◌^◌, Bool, true, false, cond, List, [], ◌∷◌, refl, ap, arith, sym, subst, ◌∙◌, inl, inr}
-use Rattle.std.specs.Prelude.{Option, Some, None, is_some, map, All, AllPairs, ◌||◌}
+use Rattle.std.proofs.Common.{◌≡◌, ℕ, suc, ◌+◌, ◌<◌, ◌≤◌, ◌^◌, Bool, true, false, cond, List, [], ◌∷◌, length, refl, ap, arith, sym, subst, ◌∙◌, inl, inr}
+use Rattle.std.specs.Prelude.{Option, Some, None, is_some, map, sum_by, All, AllPairs, ◌||◌}
 use Rattle.std.specs.List.{AllByRecursion, list_any}
 use Rattle.std.specs.Str.{bytes_eq}
 use Rattle.std.proofs.lemmas.List.Elements.{recursion_from_All}
@@ -18,17 +18,23 @@ use Rattle.mq_objects.specs.Names.Space.{Queues}
 use Rattle.mq_calls.specs.Images.{numbered}
 use Rattle.mq_calls.specs.declared.image.Image.{Image}
 use Rattle.mq_calls.specs.declared.image.Shelf.{Shelf}
-use Rattle.mq_calls.specs.Recovery.{IsImage, AreApart, AreKnown, IsKnown}
+use Rattle.mq_sync.specs.declared.data.InDoubt.{InDoubt}
+use Rattle.mq_calls.specs.declared.state.SenderSide.{SenderSide}
+use Rattle.mq_calls.specs.declared.state.ReceiverSide.{ReceiverSide}
+use Rattle.mq_calls.specs.Changes.{comes_before}
+use Rattle.mq_calls.specs.Recovery.{IsImage, AreApart, AreKnown, IsKnown, listed}
 use Rattle.mq_spec_manager.specs.Words.{last_moment}
 use Rattle.mq_log.specs.State.{LogState}
 use Rattle.mq_place.specs.States.{QueueState, queues_of, state_in}
+use Rattle.mq_law_manager.proofs.Beginning.{pairs_chain}
 use Rattle.mq_law_manager.proofs.Lists.{ident_yes, ident_self}
 use Rattle.mq_law_manager.proofs.Named.{name_is}
 use Rattle.mq_law_image.proofs.Naming.{shelf_names, local_names, is_local_at, name_listed, local_found}
-use Rattle.mq_core.specs.Ties.{Tied, state_lanes, local_lanes, pending_at, times_in_rows, times_in_queues, one_if}
+use Rattle.mq_sides.specs.Places.{AreByName}
+use Rattle.mq_core.specs.Ties.{EndsReady, Tied, doubt_rows, ends_need, state_lanes, local_lanes, pending_at, times_in_rows, times_in_queues, one_if}
 use Rattle.mq_rebuild.specs.declared.building.Built.{Built}
 use Rattle.mq_rebuild.specs.Rebuilt.{is_laned, state_on, IsBuilt}
-use Rattle.mq_restart.specs.Begun.{begun_parts, IsFresh}
+use Rattle.mq_restart.specs.Begun.{begun_ends, begun_parts, IsFresh}
 
 true_false : true ≡ false → ⊥
 true_false e = absurd cc
@@ -230,12 +236,30 @@ none_pending name d (s ∷ ss) = by (bytes_eq name s.name) (none_pending name d 
     by true rest = refl
     by false rest = rest
 
+-- ---- what channel ends have
+
+doubt_listed : (o : Option InDoubt) → doubt_rows o ≡ length (listed o)
+doubt_listed None = refl
+doubt_listed (Some d) = refl
+
+rows_listed : (ss : List SenderSide) → sum_by (λ (s : SenderSide). doubt_rows s.hardened.in_doubt) ss ≡ sum_by (λ (s : SenderSide). length (listed s.hardened.in_doubt)) ss
+rows_listed [] = refl
+rows_listed (s ∷ ss) = let one = doubt_listed s.hardened.in_doubt in let more = rows_listed ss in omega (arith, one, more)
+
+ends_ready : (i : Image) (b : Built) (log : LogState) → IsBuilt i b → IsImage i → ends_need (begun_ends b) ≤ log.spare → EndsReady (begun_ends b) log.spare
+ends_ready i b log h image aside = record {
+  log = aside;
+  rows = let e = ap (λ (ss : List SenderSide). sum_by (λ (s : SenderSide). doubt_rows s.hardened.in_doubt) ss) h.senders in let l = rows_listed i.senders in let k = h.rows in omega (arith, e, l, k);
+  senders = subst (λ (ss : List SenderSide). AreByName (λ (s : SenderSide). s.channel) ss) (sym h.senders) (pairs_chain (λ (s t : SenderSide). comes_before s.channel t.channel ≡ true) i.senders image.senders_sorted);
+  receivers = subst (λ (rs : List ReceiverSide). AreByName (λ (r : ReceiverSide). r.channel) rs) (sym h.receivers) (pairs_chain (λ (r t : ReceiverSide). comes_before r.channel t.channel ≡ true) i.receivers image.receivers_sorted);
+}
+
 -- ---- all that ties them
 
-pub begun_tied : (number : ℕ) (name : List ℕ) (moment max : ℕ) (i : Image) (b : Built) (log : LogState) → IsBuilt i b → IsImage i → AreKnown number i → IsFresh max log → max < 2 ^ 32 → moment ≤ last_moment
+pub begun_tied : (number : ℕ) (name : List ℕ) (moment max : ℕ) (i : Image) (b : Built) (log : LogState) → IsBuilt i b → IsImage i → AreKnown number i → IsFresh max log → ends_need (begun_ends b) ≤ log.spare → max < 2 ^ 32 → moment ≤ last_moment
     → Tied (begun_parts number name moment b log)
-begun_tied number name moment max i b log h image known fresh small late = record {
-  up = λ u. record { live = fresh.live; settled = fresh.settled; room = let f = fresh.free in omega (arith, f); body = let f = fresh.free in omega (arith, f) };
+begun_tied number name moment max i b log h image known fresh aside small late = record {
+  up = λ u. record { live = fresh.live; settled = fresh.settled; ends = ends_ready i b log h image aside; room = let f = fresh.free in omega (arith, f); body = let f = fresh.free in omega (arith, f) };
   reserved = λ u. fresh.free;
   within = λ u. let f = fresh.free in omega (arith, f);
   queues = record {

@@ -26,6 +26,8 @@ use Rattle.mq_rebuild.specs.Rebuilt.{IsBuilt}
 use Rattle.mq_core.specs.declared.parts.Mode.TheVariants as modes
 use Rattle.mq_core.specs.Values.{CoreValue, bodies_in}
 use Rattle.mq_core.specs.Views.{PartsValue, plain_of}
+use Rattle.mq_core.specs.Ties.{ends_need}
+use Rattle.mq_core.specs.declared.parts.ChannelEnds.{ChannelEnds}
 
 abbrev pub given_by : ℕ → List ℕ → ℕ → Given
 given_by number name max = record { number = number; name = name; log_max = max }
@@ -44,6 +46,10 @@ abbrev pub IsUnread : Given → Start → List (List ℕ) → RecoverFault → T
 IsUnread g start bodies (BadRecord place) = image g start bodies ≡ Err place
 IsUnread g start bodies NoMemory = Unit {0}
 
+-- what channel ends have of a manager that was built: what was hardened, and nothing that runs
+abbrev pub begun_ends : Built → ChannelEnds
+begun_ends b = record { senders = b.senders; receivers = b.receivers; seizures = []; batches = []; bound = []; rows = b.rows }
+
 -- the parts of a manager that was built and is up, and how it is seen
 abbrev pub begun_parts : ℕ → List ℕ → ℕ → Built → LogState → PartsValue
 begun_parts number name moment b log = record {
@@ -53,7 +59,7 @@ begun_parts number name moment b log = record {
   defs = b.defs;
   queues = b.queues;
   desk = record { live = []; last = 0 };
-  ends = record { senders = b.senders; receivers = b.receivers; seizures = []; batches = []; bound = [] };
+  ends = begun_ends b;
   moment = moment;
   incarnation = b.incarnation + 1;
   idents = 0;
@@ -87,7 +93,7 @@ pub record HasOpened (tells : Type 0) (seen : List ℕ) (old max : ℕ) (log : L
   pub read : tells → IsLog seen log.bodies
   pub later : old ≤ log.faults
 
--- the Started record of what was built stands behind the bodies
+-- the Started record of what was built stands behind the bodies, and what its channel ends need is set aside
 pub record IsStarted (g : Given) (b : Built) (old new : LogState) : Type 0 where
   pub is : IsRecord (started_record g (b.incarnation + 1))
   pub fresh : IsFresh old.max new
@@ -95,6 +101,7 @@ pub record IsStarted (g : Given) (b : Built) (old new : LogState) : Type 0 where
   pub long : log_length new.bodies ≡ log_length old.bodies + started_need g
   pub ends : Stops old.armed (Ok tt) new.armed
   pub later : old.faults ≤ new.faults
+  pub aside : ends_need (begun_ends b) ≤ new.spare
 
 -- A first start: the manager is that of the image that its log told, with its own Started record behind it; and that log tells what
 -- lasts of it.

@@ -26,7 +26,7 @@ use Rattle.mq_core.specs.declared.parts.ReadLog.{ReadLog}
 use Rattle.mq_restart.specs.Tells.{kept_of}
 use Rattle.mq_core.specs.Views.{PartsValue, plain_of}
 use Rattle.mq_core.specs.Ties.{Tied}
-use Rattle.mq_restart.specs.declared.raising.Unraised.{Unraised}
+use Rattle.mq_restart.specs.declared.reading.Unraised.{Unraised}
 use Rattle.mq_restart.specs.Begun.{given_by, begun_parts, IsReadFrom, IsUnread, IsStarted}
 
 abbrev pub given_of : PartsValue → Given
@@ -50,11 +50,11 @@ abbrev pub stop_fault : Stop → RestartFault
 stop_fault stops.Cut = faults.Cut
 stop_fault stops.Disk = faults.Disk
 
--- the log was read again, and one call counted where it has a body, else three
+-- the log was read again, and memory may have been set aside; one call counted where it has a body, else three
 pub record HasRead (tells : Type 0) (old : LogState) (found : Found) (new : LogState) : Type 0 where
   pub bodies : IsFound old.bodies old.pending found new.bodies
   pub known : tells → found ≢ Other
-  pub same : new ≡ record old { bodies = new.bodies; live = true; pending = None; reserved = 0; room = new.room; spare = 0; armed = new.armed; faults = new.faults }
+  pub same : new ≡ record old { bodies = new.bodies; live = true; pending = None; reserved = 0; room = new.room; spare = new.spare; armed = new.armed; faults = new.faults }
   pub ends : EndsByOneOrThree {T = Found} old.armed (Ok found) new.armed
   pub one : 0 < length new.bodies → (new.armed ≡ old.armed - 1) × (0 < old.armed → 1 < old.armed)
   pub later : old.faults ≤ new.faults
@@ -72,7 +72,7 @@ pub record HasNotRead (tells : Type 0) (old : LogState) (fault : StartFault) (ne
 pub record IsHalted (g : Given) (b : Built) (by : Stop) (old new : LogState) : Type 0 where
   pub is : IsRecord (started_record g (b.incarnation + 1))
   pub long : length (record_bytes (started_record g (b.incarnation + 1))) ≡ 58
-  pub log : new ≡ record old { live = false; pending = Some (record_bytes (started_record g (b.incarnation + 1))); room = new.room; armed = new.armed; faults = new.faults }
+  pub log : new ≡ record old { live = false; pending = Some (record_bytes (started_record g (b.incarnation + 1))); room = new.room; spare = new.spare; armed = new.armed; faults = new.faults }
   pub ends : Stops old.armed (Err by) new.armed
   pub later : old.faults ≤ new.faults
   pub disk : by ≡ stops.Disk → Rose old.faults new.faults
@@ -88,7 +88,7 @@ pub record IsRaised (b : Built) (x y : PartsValue) : Type 0 where
 
 -- or not: there was no memory, or its write was stopped
 pub data HasHalted (g : Given) (b : Built) (old : LogState) (e : Unraised) (new : LogState) : Type 0 where
-  Wanting : e.fault ≡ faults.NoMemory → e.in_write ≡ false → new ≡ record old { room = new.room } → HasHalted g b old e new
+  Wanting : e.fault ≡ faults.NoMemory → e.in_write ≡ false → new ≡ record old { room = new.room; spare = new.spare } → HasHalted g b old e new
   Halted : (by : Stop) → e.fault ≡ stop_fault by → e.in_write ≡ true → IsHalted g b by old new → HasHalted g b old e new
 
 pub record IsUnraised (b : Built) (x : PartsValue) (e : Unraised) (y : PartsValue) : Type 0 where

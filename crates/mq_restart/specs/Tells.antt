@@ -10,7 +10,8 @@ use Rattle.mq_law_image.specs.Tells.{TellsDown}
 use Rattle.mq_record.specs.Records.{record_bytes}
 use Rattle.mq_core.specs.declared.parts.ReadLog.{ReadLog}
 use Rattle.mq_rebuild.specs.declared.building.Built.{Built}
-use Rattle.mq_restart.specs.Begun.{IsFresh}
+use Rattle.mq_core.specs.Ties.{ends_need}
+use Rattle.mq_restart.specs.Begun.{IsFresh, begun_ends}
 
 -- Bodies of a manager that is down: what lasts of it, with the noted write or without it, behind the Started records of so
 -- many restarts that were stopped; and how long they are.
@@ -59,3 +60,4 @@ pub record HasRestarted (p : Plain) (found : List (List ℕ)) (b : Built) (log :
   pub bodies : log.bodies ≡ found ++ record_bytes (started_record p.given (b.incarnation + 1)) ∷ []
   pub long : log_length log.bodies ≡ log_length found + started_need p.given
   pub armed : log.armed ≡ p.log.armed - calls_of_restart
+  pub aside : ends_need (begun_ends b) ≤ log.spare

@@ -6,9 +6,10 @@ ghost use Rattle.mq_calls.specs.State.{Given};
 ghost use Rattle.mq_spec_log.specs.Applies.Start.{First};
 ghost use Rattle.mq_restart.specs.Begun.{given_by, begin_fault, recovered_fault, IsOpened, HasOpened, BeginsFrom, IsReadFrom, HasBegun, HasNotBegun};
 
+use crate::aside::make_room;
 use crate::images::built_of;
 use crate::parts::core_of;
-use mq_base::QName;
+use mq_base::{NoMemory, QName};
 use mq_calls::BeginFault;
 use mq_core::Core;
 use mq_disk::{Cutter, Disk, Stop};
@@ -101,9 +102,9 @@ fn begin_built<D: Disk>(
     requires read { IsReadFrom (given_by number name.now log.max) First log.bodies built }
     ensures { MatchResult result (λ core. BeginsFrom D.tells log (given_by number name.now log.max) moment core) (λ e. (seen : List ℕ) → HasNotBegun D.tells seen (given_by number name.now log.max) log.faults e.fault (D.faults e.disk.inner)) }
 {
-    match log.room(63) {
+    match make_room(&mut log, &built) {
         Ok(()) => {}
-        Err(_) => return Err(handed_back(BeginFault::NoMemory, log)),
+        Err(NoMemory) => return Err(handed_back(BeginFault::NoMemory, log)),
     }
     let record = started_bytes(number, name, built.incarnation + 1);
     match log.append_forced(&record) {

@@ -19,6 +19,14 @@ fn are_bytes(bytes: &[u8])
     ensures { IsBytes bytes.now }
 {}
 
+/// The bodies of a log are bytes. It does nothing.
+pub fn bodies_are_bytes<D: Disk>(log: &Log<D>)
+    ensures { AllByRecursion IsBytes log.now.bodies }
+{
+    let bodies = log.bodies();
+    are_bytes(bodies.framed);
+}
+
 /// The image that a log tells.
 fn image_of<D: Disk>(
     alloc: Global,

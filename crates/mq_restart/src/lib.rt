@@ -1,19 +1,17 @@
-//! How a queue manager comes up from its log: its first start, and the call `restart`.
+//! How a queue manager comes up from its log: its first start, and why a restart is what its history says.
 #![tactic(auto)]
 
+mod aside;
 mod beginning;
-mod falling;
 mod images;
 mod laws;
 mod parts;
-mod raising;
 mod reading;
-mod restarting;
 mod starting;
 
+pub use aside::make_room;
 pub use beginning::{Unbegun, begin};
+pub use images::bodies_are_bytes;
 pub use laws::a_log_stands_behind_each_stop;
-pub use raising::{Unraised, raise};
-pub use reading::{LogRead, Returned, Unreturned};
-pub use restarting::restart;
+pub use reading::{LogRead, Returned, Unraised, Unreturned};
 pub use starting::{a_restart_comes_up_as_its_history_says, a_restart_keeps_to_its_history};

@@ -39,6 +39,7 @@ fn parts_of<D: Disk>(
             seizures: Items::new(alloc),
             batches: Items::new(alloc),
             bound: Items::new(alloc),
+            rows: built.rows,
         },
         moment,
         incarnation: built.incarnation + 1,

@@ -13,7 +13,7 @@ ghost use Rattle.mq_core.specs.Ties.{Tied};
 ghost use Rattle.mq_core.specs.Views.{PartsValue, plain_of};
 ghost use Rattle.mq_restart.specs.Begun.{begun_parts, IsReadFrom};
 ghost use Rattle.mq_restart.specs.Tells.{HasRestarted, LogStood, Stood, kept_of};
-ghost use Rattle.mq_restart.specs.declared.raising.Unraised.{Unraised};
+ghost use Rattle.mq_restart.specs.declared.reading.Unraised.{Unraised};
 ghost use Rattle.mq_restart.specs.Raised.{Raises, Fell, ComesUp, read_after, starts_after, fails_as};
 
 use mq_disk::Disk;

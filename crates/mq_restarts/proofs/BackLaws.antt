@@ -14,7 +14,7 @@ use Rattle.mq_calls.specs.Words.{is_up}
 use Rattle.mq_core.specs.Ties.{Tied}
 use Rattle.mq_core.specs.Values.{CoreValue, bodies_in}
 use Rattle.mq_core.specs.Views.{PartsValue, plain_of, frozen_of}
-use Rattle.mq_restart.specs.declared.raising.Unraised.{Unraised}
+use Rattle.mq_restart.specs.declared.reading.Unraised.{Unraised}
 use Rattle.mq_restart.specs.Raised.{Raises}
 use Rattle.mq_redo.specs.Redone.{redone_of}
 use Rattle.mq_restart.specs.declared.reading.LogRead.{LogRead}

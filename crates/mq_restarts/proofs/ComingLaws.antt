@@ -10,7 +10,7 @@ use Rattle.mq_recover.specs.declared.recovery.RecoverFault.TheVariants as recove
 use Rattle.mq_rebuild.specs.declared.building.Built.{Built}
 use Rattle.mq_rebuild.specs.Rebuilt.{IsBuilt}
 use Rattle.mq_core.specs.Views.{PartsValue}
-use Rattle.mq_restart.specs.declared.raising.Unraised.{Unraised}
+use Rattle.mq_restart.specs.declared.reading.Unraised.{Unraised}
 use Rattle.mq_restart.specs.Begun.{given_by, IsReadFrom, IsUnread, IsFresh}
 use Rattle.mq_restart.specs.Raised.{given_of, with_log, HasRead, Raises, Fell}
 use Rattle.mq_restart.specs.Raised.Fell.{Unread, Unstarted as WasUnstarted}
@@ -56,17 +56,17 @@ unread_is tells found x y log e r u = subst (λ (z : PartsValue). Fell tells x e
     (Unread found u.fault (ap (λ (w : Unraised). w.fault) u.is) (ap (λ (w : Unraised). w.found) u.is) (ap (λ (w : Unraised). w.in_write) u.is) r
     (subst (λ (n : ℕ). IsUnread (given_by x.number x.name n) Later log.bodies u.fault) (most_same tells found x.log log r) u.unread) refl)
 
-roomy_read : (tells : Type 0) (found : Found) (old mid new : LogState) → HasRead tells old found mid → new ≡ record mid { room = new.room } → HasRead tells old found new
+roomy_read : (tells : Type 0) (found : Found) (old mid new : LogState) → HasRead tells old found mid → new ≡ record mid { room = new.room; spare = new.spare } → HasRead tells old found new
 roomy_read tells found old mid new r e = subst (λ (l : LogState). HasRead tells old found l) (sym e) (record {
   bodies = r.bodies;
   known = r.known;
-  same = ap (λ (l : LogState). let k : LogState = record l { room = new.room } in k) r.same;
+  same = ap (λ (l : LogState). let k : LogState = record l { room = new.room; spare = new.spare } in k) r.same;
   ends = r.ends;
   one = r.one;
   later = r.later;
 })
 
-wants_is : (tells : Type 0) (found : Found) (x y : PartsValue) (log : LogState) (e : Unraised) → HasRead tells x.log found log → e.found ≡ Some found → e.fault ≡ faults.NoMemory → e.in_write ≡ false → y.log ≡ record log { room = y.log.room } → y ≡ with_log y.log (with_log log x) → Fell tells x e y
+wants_is : (tells : Type 0) (found : Found) (x y : PartsValue) (log : LogState) (e : Unraised) → HasRead tells x.log found log → e.found ≡ Some found → e.fault ≡ faults.NoMemory → e.in_write ≡ false → y.log ≡ record log { room = y.log.room; spare = y.log.spare } → y ≡ with_log y.log (with_log log x) → Fell tells x e y
 wants_is tells found x y log e r was fault out room same = Unread found recovers.NoMemory fault was out (roomy_read tells found x.log log y.log r room) tt same
 
 -- an image from which it didn't come up: there was no memory, or its write was stopped

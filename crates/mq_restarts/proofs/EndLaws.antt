@@ -18,7 +18,7 @@ use Rattle.mq_core.specs.declared.parts.Mode.{Mode}
 use Rattle.mq_core.specs.Ties.{Tied, mode_is_up}
 use Rattle.mq_core.specs.Values.{CoreValue, LogBodies}
 use Rattle.mq_core.specs.Views.{PartsValue, plain_of, frozen_of, noted, read_length}
-use Rattle.mq_restart.specs.declared.raising.Unraised.{Unraised}
+use Rattle.mq_restart.specs.declared.reading.Unraised.{Unraised}
 use Rattle.mq_restart.specs.Raised.{with_log, starts_after, stop_fault}
 use Rattle.mq_restart.proofs.FallLaws.{spent_of}
 use Rattle.mq_restart.specs.declared.reading.LogRead.{LogRead}

@@ -98,7 +98,7 @@ module _ (tells : Type 0) (least : ℕ) (x y : PartsValue) (found : Found) (log 
   far_tied t = subst Tied (sym c.rises.raised.becomes)
       (tied_body (begun_parts x.number x.name x.moment c.rises.built y.log) x.body fresh.free
       (begun_tied x.number x.name x.moment x.log.max (above least c.told) c.rises.built y.log c.rises.is
-      (above_image (given_of x) log.bodies c.told least read c.is.bytes (omega (arith, high))) (above_known (given_of x) log.bodies c.told least read c.is.bytes (omega (arith, high))) fresh t.max t.moment))
+      (above_image (given_of x) log.bodies c.told least read c.is.bytes (omega (arith, high))) (above_known (given_of x) log.bodies c.told least read c.is.bytes (omega (arith, high))) fresh started.aside t.max t.moment))
 
   pub far_seen : plain_of y ≡ begun (given_of x) (raised 0 (above least c.told)) (record { length = log_length y.log.bodies; armed = y.log.armed }) x.moment
   far_seen =

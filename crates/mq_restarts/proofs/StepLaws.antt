@@ -16,7 +16,7 @@ use Rattle.mq_rebuild.specs.declared.building.Built.{Built}
 use Rattle.mq_rebuild.specs.Rebuilt.{IsBuilt}
 use Rattle.mq_law_image.proofs.Recovered.{recovered}
 use Rattle.mq_core.specs.Views.{PartsValue}
-use Rattle.mq_restart.specs.declared.raising.Unraised.{Unraised}
+use Rattle.mq_restart.specs.declared.reading.Unraised.{Unraised}
 use Rattle.mq_restart.specs.Begun.{given_by, IsFresh, IsUnread}
 use Rattle.mq_restart.specs.Raised.{given_of, with_log, read_fault, HasRead, HasHalted, IsRaised, IsUnraised, Fell}
 use Rattle.mq_restart.specs.Raised.HasHalted.{Wanting, Halted}

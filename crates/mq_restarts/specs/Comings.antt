@@ -16,7 +16,7 @@ use Rattle.mq_recover.specs.declared.recovery.RecoverFault.{RecoverFault}
 use Rattle.mq_rebuild.specs.declared.building.Built.{Built}
 use Rattle.mq_rebuild.specs.Rebuilt.{IsBuilt}
 use Rattle.mq_core.specs.Views.{PartsValue}
-use Rattle.mq_restart.specs.declared.raising.Unraised.{Unraised}
+use Rattle.mq_restart.specs.declared.reading.Unraised.{Unraised}
 use Rattle.mq_restart.specs.Begun.{IsUnread}
 use Rattle.mq_restart.specs.Raised.{given_of, with_log, read_fault, stop_fault, HasRead, IsHalted, IsRaised, Fell}
 use Rattle.mq_restart.specs.declared.reading.LogRead.{LogRead}
@@ -62,7 +62,7 @@ pub record IsStopped (x : PartsValue) (i : Image) (e : Unraised) (y : PartsValue
   pub same : y ≡ with_log y.log x
 
 pub data Halts (x : PartsValue) (i : Image) (e : Unraised) (y : PartsValue) : Type 0 where
-  Wants : e.fault ≡ faults.NoMemory → e.in_write ≡ false → y.log ≡ record x.log { room = y.log.room } → y ≡ with_log y.log x → Halts x i e y
+  Wants : e.fault ≡ faults.NoMemory → e.in_write ≡ false → y.log ≡ record x.log { room = y.log.room; spare = y.log.spare } → y ≡ with_log y.log x → Halts x i e y
   Breaks : IsStopped x i e y → Halts x i e y
 
 -- what it tells is no image, or there was no memory for one

@@ -5,7 +5,7 @@ ghost use Rattle.mq_restart.specs.Raised.{raised_parts, start_fault, stop_fault,
 ghost use Rattle.mq_calls.specs.Recovery.{IsImage};
 ghost use Rattle.mq_restarts.specs.Comings.{IsReread, Rises, Halts};
 
-use mq_base::Items;
+use mq_base::{Items, NoMemory};
 use mq_calls::{Image, RestartFault};
 use mq_core::{ChannelEnds, Mode, Parts};
 use mq_disk::{Disk, Stop};
@@ -13,7 +13,7 @@ use mq_handles::Live;
 use mq_log::{Found, StartFault};
 use mq_rebuild::{Built, build};
 use mq_record::started_bytes;
-use mq_restart::Unraised;
+use mq_restart::{Unraised, make_room};
 
 fn start_fault(fault: StartFault) -> RestartFault
     ensures { result ≡ start_fault fault }
@@ -67,6 +67,7 @@ fn come_up<D: Disk>(parts: &mut Parts<D>, built: Built)
         queues,
         senders,
         receivers,
+        rows,
         incarnation,
     } = built;
     parts.mode = Mode::Up;
@@ -79,6 +80,7 @@ fn come_up<D: Disk>(parts: &mut Parts<D>, built: Built)
         seizures: Items::new(parts.alloc),
         batches: Items::new(parts.alloc),
         bound: Items::new(parts.alloc),
+        rows,
     };
     parts.incarnation = incarnation + 1;
     parts.idents = 0;
@@ -91,9 +93,9 @@ fn start_built<D: Disk>(parts: &mut Parts<D>, built: Built, found: Found) -> Res
     ensures found { MatchResult result (λ _. Unit {0}) (λ e. e.found ≡ Some found) }
     ensures raised { MatchResult result (λ _. IsRaised built parts.old parts.new) (λ e. IsUnraised built parts.old e parts.new) }
 {
-    match parts.log.room(63) {
+    match make_room(&mut parts.log, &built) {
         Ok(()) => {}
-        Err(_) => {
+        Err(NoMemory) => {
             return Err(Unraised {
                 fault: RestartFault::NoMemory,
                 found: Some(found),

@@ -1,3 +1,5 @@
 pub mod PlaceLaws
 pub mod TakeLaws
 pub mod OrderLaws
+pub mod SumLaws
+pub mod KeptLaws

@@ -2,32 +2,32 @@
 ghost use Rattle.std.specs.Prelude.{◌≡◌, option_copied, IfOk};
 ghost use Rattle.mq_calls.specs.Words.{batch_of, receiver_in, receiver_or, sender_or, seizure_of, sender_in};
 
-use crate::kept::KeptBatch;
+use crate::kept::{KeptBatch, KeptReceiver, KeptSender};
 use crate::sides::side_of;
 use mq_base::{ChName, Items, NoMemory, QName};
-use mq_calls::{Batch, ReceiverSide, Seizure, SenderSide};
+use mq_calls::{Batch, Seizure};
 use mq_sync::{InDoubt, ReceiverData, SenderData, Unit};
 use std::alloc::Global;
 
 /// What the sender of a channel has hardened.
 #[tactic(auto, using(crate::proofs::PlaceLaws::sender_found))]
-pub fn sender_of<'a>(sides: &'a Items<SenderSide>, channel: &ChName) -> Option<&'a SenderData>
+pub fn sender_of<'a>(sides: &'a Items<KeptSender>, channel: &ChName) -> Option<&'a SenderData>
     ensures { option_copied result ≡ sender_in channel.now sides.now }
 {
     match side_of(sides, channel) {
         None => None,
-        Some(side) => Some(&side.hardened),
+        Some(kept) => Some(&kept.side().hardened),
     }
 }
 
 /// What the receiver of a channel has hardened.
 #[tactic(auto, using(crate::proofs::PlaceLaws::receiver_found))]
-pub fn receiver_of<'a>(sides: &'a Items<ReceiverSide>, channel: &ChName) -> Option<&'a ReceiverData>
+pub fn receiver_of<'a>(sides: &'a Items<KeptReceiver>, channel: &ChName) -> Option<&'a ReceiverData>
     ensures { option_copied result ≡ receiver_in channel.now sides.now }
 {
     match side_of(sides, channel) {
         None => None,
-        Some(side) => Some(&side.hardened),
+        Some(kept) => Some(&kept.side().hardened),
     }
 }
 
@@ -102,7 +102,7 @@ fn sender_or_blank(alloc: Global, found: Option<&SenderData>) -> Result<SenderDa
 /// No memory.
 pub fn sender_data(
     alloc: Global,
-    sides: &Items<SenderSide>,
+    sides: &Items<KeptSender>,
     channel: &ChName,
 ) -> Result<SenderData, NoMemory>
     ensures { IfOk result (λ d. d ≡ sender_or (sender_in channel.now sides.now)) }
@@ -132,7 +132,7 @@ fn receiver_or_blank(found: Option<&ReceiverData>) -> ReceiverData
 }
 
 /// What the receiver of a channel has hardened; what a new one has where there is none. It takes no memory.
-pub fn receiver_data(sides: &Items<ReceiverSide>, channel: &ChName) -> ReceiverData
+pub fn receiver_data(sides: &Items<KeptReceiver>, channel: &ChName) -> ReceiverData
     ensures { result ≡ receiver_or (receiver_in channel.now sides.now) }
 {
     receiver_or_blank(receiver_of(sides, channel))

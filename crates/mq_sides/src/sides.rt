@@ -3,9 +3,9 @@ ghost use Rattle.std.specs.Prelude.{◌≡◌, ℕ, List, find, filter, not, opt
 ghost use Rattle.std.specs.List.{position};
 ghost use Rattle.std.specs.Str.{bytes_eq};
 ghost use Rattle.mq_calls.specs.Words.{comes_before, set_named};
-ghost use Rattle.mq_sides.specs.Places.{is_of, is_there, place_in, AreByName, CanUndo, undone};
+ghost use Rattle.mq_sides.specs.Places.{is_of, is_there, place_in, AreByName, CanUndo, standing, undone};
 
-use crate::kept::KeptBatch;
+use crate::kept::{KeptBatch, KeptReceiver, KeptSender};
 use mq_base::{ChName, Items, NoMemory};
 use mq_calls::{ReceiverSide, Seizure, SenderSide};
 use std::alloc::Global;
@@ -33,6 +33,22 @@ impl OfChannel for ReceiverSide {
 
     fn channel(&self) -> &ChName {
         &self.channel
+    }
+}
+
+impl OfChannel for KeptSender {
+    ghost channel_of = { λ s. s.channel };
+
+    fn channel(&self) -> &ChName {
+        &self.side().channel
+    }
+}
+
+impl OfChannel for KeptReceiver {
+    ghost channel_of = { λ s. s.channel };
+
+    fn channel(&self) -> &ChName {
+        &self.side().channel
     }
 }
 
@@ -108,6 +124,23 @@ fn is_standing<T: OfChannel>(items: &[T], place: usize, channel: &ChName) -> boo
     }
 }
 
+/// What a value that is set for the channel takes the place of.
+pub fn standing_of<'a, T: OfChannel>(items: &'a Items<T>, channel: &ChName) -> Option<&'a T>
+    ensures { option_copied result ≡ standing T.channel_of channel.now items.now }
+{
+    let place = side_place(items.as_slice(), channel);
+    match items.get(place) {
+        None => None,
+        Some(x) => {
+            if *channel == *x.channel() {
+                Some(x)
+            } else {
+                None
+            }
+        }
+    }
+}
+
 /// How a list is as it was before a value was set: what stood at the value's place, if it took the place of one.
 #[derive(Drop)]
 pub struct Undo<T> {
@@ -126,6 +159,7 @@ pub struct Undo<T> {
 pub fn swap_side<T: OfChannel + Drop>(items: &mut Items<T>, new: T) -> Result<Undo<T>, NoMemory>
     ensures ok { OnOk result (items.new ≡ set_named T.channel_of new items.old) }
     ensures undo { IfOk result (λ u. CanUndo u.place u.before items.old items.new) }
+    ensures before { IfOk result (λ u. u.before ≡ standing T.channel_of (T.channel_of new) items.old) }
     ensures err { OnErr result (items.new ≡ items.old) }
     ensures lacks { OnErr result (AreByName T.channel_of items.old → find (λ (x : T). bytes_eq (T.channel_of new) (T.channel_of x)) items.old ≡ None) }
 {

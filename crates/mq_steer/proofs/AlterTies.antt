@@ -338,7 +338,7 @@ pub altered_tied : (planned : Planned) (r s : ℕ) (x : PartsValue) → Tied x �
 altered_tied planned r s x t once can =
     let same = desk_units planned.change planned.reroutes x.desk in
     record {
-      up = λ u. let w = t.up u in record { live = w.live; settled = w.settled; room = w.room; body = w.body };
+      up = λ u. let w = t.up u in record { live = w.live; settled = w.settled; ends = w.ends; room = w.room; body = w.body };
       reserved = λ u. t.reserved u ∙ sym same.need;
       within = t.within;
       queues = record {

@@ -22,7 +22,7 @@ use Rattle.mq_log.specs.State.{LogState}
 use Rattle.mq_core.specs.declared.parts.StoppedWrite.TheVariants as writes
 use Rattle.mq_core.specs.Views.{PartsValue, plain_of}
 use Rattle.mq_core.specs.Values.{bodies_in}
-use Rattle.mq_core.specs.Ties.{Tied, mode_is_up}
+use Rattle.mq_core.specs.Ties.{Tied, EndsReady, mode_is_up}
 use Rattle.mq_core.specs.Forced.{IsForced, downed}
 use Rattle.mq_core.proofs.ForceLaws.{forced_view, frozen_view, tied_downed, stops_at}
 use Rattle.mq_steer.specs.Altered.{IsMarked, CanChange, HasRooms, IsRoomy, altered, change_step}
@@ -32,7 +32,7 @@ use Rattle.mq_steer.proofs.AlterTies.{altered_tied}
 -- room that was taken
 pub tied_rooms : (x y : PartsValue) → HasRooms x y → Tied x → Tied y
 tied_rooms x y h t = subst Tied (sym h.same) (record {
-  up = λ u. let w = t.up u in record { live = w.live; settled = w.settled; room = omega (arith, w.room, h.more); body = w.body };
+  up = λ u. let w = t.up u in record { live = w.live; settled = w.settled; ends = w.ends; room = omega (arith, w.room, h.more); body = w.body };
   reserved = t.reserved;
   within = t.within;
   queues = record { lanes = t.queues.lanes; pending = t.queues.pending };
@@ -56,6 +56,7 @@ tied_forced r long x y z e h f t =
       up = λ u. let w = ty.up u in record {
         live = ap (λ (l : LogState). l.live) f.log ∙ w.live;
         settled = ap (λ (l : LogState). l.pending) f.log ∙ w.settled;
+        ends = subst (EndsReady y.ends) (sym (ap (λ (l : LogState). l.spare) f.log)) w.ends;
         room = omega (arith, held, kept, f.room, h.log, e);
         body = omega (arith, kept, w.body, f.body);
       };

@@ -64,7 +64,7 @@ times_served i from (s ∷ ss) = by (bytes_eq from s.queue.name) (times_served i
 
 pub tied_served : (from : List ℕ) (items : List Item) (x : PartsValue) → TiedBut items x → TiedBut items (served_at from x)
 tied_served from items x t = record {
-  up = λ u. let w = t.up u in record { live = w.live; settled = w.settled; room = w.room; body = w.body };
+  up = λ u. let w = t.up u in record { live = w.live; settled = w.settled; ends = w.ends; room = w.room; body = w.body };
   reserved = t.reserved;
   within = t.within;
   queues = record {
@@ -94,6 +94,7 @@ on_way to m x y can e t = record {
   same = ap (numbered_with y) e.same;
   live = ap (λ (z : PartsValue). z.log.live) e.same;
   settled = ap (λ (z : PartsValue). z.log.pending) e.same;
+  spare = ap (λ (z : PartsValue). z.log.spare) e.same;
   reserved = ap (λ (z : PartsValue). z.log.reserved) e.same;
   max = ap (λ (z : PartsValue). z.log.max) e.same;
   room = λ u. let w = (t.up u).room in omega (arith, w, e.more);

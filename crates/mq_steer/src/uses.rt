@@ -8,11 +8,12 @@ ghost use Rattle.mq_core.specs.Views.{plain_of};
 ghost use Rattle.mq_core.specs.Ties.{Tied};
 
 use mq_base::{ChName, QName};
-use mq_calls::{Seizure, SenderSide};
+use mq_calls::Seizure;
 use mq_core::{ChannelEnds, Core, Parts};
 use mq_disk::Disk;
 use mq_resolve::PathStep;
 use mq_sc_apply::InUse;
+use mq_sides::KeptSender;
 
 fn is_seized(seizures: &[Seizure], channel: &ChName) -> bool
     ensures { result ≡ is_some (seizure_of channel.now seizures.now) }
@@ -31,10 +32,11 @@ fn is_bound(bound: &[ChName], channel: &ChName) -> bool
     bound.iter().any(|other| *channel == *other)
 }
 
-fn is_in_doubt(senders: &[SenderSide], channel: &ChName) -> bool
+fn is_in_doubt(senders: &[KeptSender], channel: &ChName) -> bool
     ensures { result ≡ is_some (in_doubt_of (sender_in channel.now senders.now)) }
 {
-    for side in senders {
+    for kept in senders {
+        let side = kept.side();
         if *channel == side.channel {
             return side.hardened.in_doubt.is_some();
         }

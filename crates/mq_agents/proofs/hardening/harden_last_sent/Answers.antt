@@ -12,3 +12,9 @@ harden_sender-requires-clause-side g c =
     let channel = c.args.channel.now in
     let is : c.in-Ok.old ≡ sender_or (sender_data channel c.args.core.now.plain) = c.in-Ok.ensures ∙ ap (λ (w : CoreValue). sender_or (sender_data channel w.plain)) c.core.view_is in
     record { named = refl; part = ap (λ (d : SenderData). noted_change channel (notes.SeqSet sync_ends.Sender c.args.last) (SetSender channel (record d { last = c.args.last; force = true }))) (sym is) }
+
+pub harden_sender-requires-clause-kept : goal.harden_sender-requires-clause-kept
+harden_sender-requires-clause-kept g c =
+    let channel = c.args.channel.now in
+    let is : c.in-Ok.old ≡ sender_or (sender_data channel c.args.core.now.plain) = c.in-Ok.ensures ∙ ap (λ (w : CoreValue). sender_or (sender_data channel w.plain)) c.core.view_is in
+    ap (λ (d : SenderData). d.in_doubt) is

@@ -1,4 +1,4 @@
-use Rattle.std.proofs.Common.{◌≡◌, ℕ, ◌+◌, ◌≤◌, ◌<◌, ◌∙◌, sym, ap, subst, refl, arith}
+use Rattle.std.proofs.Common.{◌≡◌, ℕ, ◌+◌, ◌≤◌, ◌<◌, ◌∙◌, true, sym, ap, subst, refl, arith}
 use Rattle.std.specs.Prelude.{List, [], ◌∷◌, ◌++◌, length, Ok, Err, Some}
 use Rattle.mq_calls.specs.Words.{Plain, is_up, set_receiver}
 use Rattle.mq_calls.specs.declared.deltas.Did.{Did}
@@ -8,9 +8,14 @@ use Rattle.mq_unit.specs.Told.{Telling}
 use Rattle.mq_log.specs.State.{LogState}
 use Rattle.mq_core.specs.Views.{PartsValue, plain_of, frozen_of}
 use Rattle.mq_core.proofs.MeetLaws.{mode_up}
-use Rattle.mq_agents.specs.Written.{with_receivers, note_record}
-use Rattle.mq_agents.proofs.WriteLaws.{hardened_tied, hardened_meets, hardening_ends, hardening_told, hardened_wrote, hardened_bodies, unwritten_tied, receiver_hardened}
+use Rattle.mq_agents.specs.Written.{with_receivers, note_record, noted_change}
+use Rattle.mq_agents.proofs.WriteLaws.{hardened_tied, hardened_meets, hardening_ends, hardening_told, hardened_wrote, hardened_bodies, more_aside, tied_after, receiver_hardened}
 use Rattle.mq_core.specs.Values.{CoreValue, manager_of, behind_record}
+use Rattle.mq_calls.specs.declared.state.ReceiverSide.{ReceiverSide}
+use Rattle.mq_core.specs.declared.parts.StoppedWrite.TheVariants as writes
+use Rattle.mq_core.specs.Ties.{mode_is_up}
+use Rattle.mq_core.proofs.PutLaws.{tied_roomier, roomier_view}
+use Rattle.mq_core.proofs.WriteLaws.{roomier_bodies}
 use Rattle.mq_agents.proofs.hardening.harden_receiver.Goals as goal
 
 pub write_receiver-requires-clause-live : goal.write_receiver-requires-clause-live
@@ -21,8 +26,20 @@ write_receiver-requires-clause-live g c =
     let channel = c.args.channel.now in
     let note = c.args.note.now in
     let bytes = c.args.bytes.now in
-    let side = c.args.side in
-    (c.core.invariant.up (mode_up (frozen_of x) x.mode (ap (λ (p : Plain). is_up p.running) plain ∙ c.requires.up))).live
+    let side = c.in-Ok-kept_receiver.kept in
+    let is : side ≡ c.args.side = c.in-Ok-kept_receiver.ensures in
+    let part = c.requires.side.part ∙ ap (λ (k : ReceiverSide). noted_change c.args.channel.now c.args.note.now (SetReceiver c.args.channel.now k.hardened)) (sym is) in
+    let y : PartsValue = c.aside_for.new.parts in
+    let more = c.aside_for.ensures.more in
+    ap (λ (p : PartsValue). p.log.live) more.same ∙ (c.core.invariant.up (mode_up (frozen_of x) x.mode (ap (λ (p : Plain). is_up p.running) plain ∙ c.requires.up))).live
+
+pub write_receiver-requires-clause-ends : goal.write_receiver-requires-clause-ends
+write_receiver-requires-clause-ends g c =
+    let plain = ap (λ (w : CoreValue). w.plain) (c.core.view_is ∙ c.begin_call.ensures) in
+    let x : PartsValue = c.core.inside.parts in
+    let is : c.in-Ok-kept_receiver.kept ≡ c.args.side = c.in-Ok-kept_receiver.ensures in
+    let up = mode_up (frozen_of x) x.mode (ap (λ (p : Plain). is_up p.running) plain ∙ c.requires.up) in
+    c.in-Ok-aside_for.ensures.ready (c.core.invariant.up up).ends c.in-Ok-kept_receiver.kept (ap (λ (k : ReceiverSide). k.channel) is ∙ c.requires.side.named) (ap (λ (k : ReceiverSide). k.hardened.closed) is)
 
 pub invariant_of-core-in-Err-write_receiver : goal.invariant_of-core-in-Err-write_receiver
 invariant_of-core-in-Err-write_receiver g c =
@@ -32,8 +49,12 @@ invariant_of-core-in-Err-write_receiver g c =
     let channel = c.args.channel.now in
     let note = c.args.note.now in
     let bytes = c.args.bytes.now in
-    let side = c.args.side in
-    unwritten_tied c.in-Err-write_receiver.unwritten channel note bytes (with_receivers (set_receiver side x.ends.receivers) x.ends) x c.write_receiver.new.parts c.requires.bytes c.requires.size c.in-Err-write_receiver.ensures c.core.invariant
+    let side = c.in-Ok-kept_receiver.kept in
+    let is : side ≡ c.args.side = c.in-Ok-kept_receiver.ensures in
+    let part = c.requires.side.part ∙ ap (λ (k : ReceiverSide). noted_change c.args.channel.now c.args.note.now (SetReceiver c.args.channel.now k.hardened)) (sym is) in
+    let y : PartsValue = c.aside_for.new.parts in
+    let more = c.aside_for.ensures.more in
+    tied_after c.in-Err-write_receiver.unwritten x y c.write_receiver.new.parts (writes.Hardened channel note) (note_record channel note) bytes (with_receivers (set_receiver side y.ends.receivers) y.ends) (more_aside x y more) (λ e. more) c.requires.bytes c.requires.size c.in-Err-write_receiver.ensures.written c.core.invariant
 
 pub returns-in-Err-write_receiver-clause-meets : goal.returns-in-Err-write_receiver-clause-meets
 returns-in-Err-write_receiver-clause-meets g c =
@@ -43,9 +64,13 @@ returns-in-Err-write_receiver-clause-meets g c =
     let channel = c.args.channel.now in
     let note = c.args.note.now in
     let bytes = c.args.bytes.now in
-    let side = c.args.side in
-    hardening_ends c.in-Err-write_receiver.unwritten (manager_of c.args.core.now) x c.write_receiver.new.parts c.reserve.new.self.dids channel note (SetReceiver channel side.hardened) bytes (with_receivers (set_receiver side x.ends.receivers) x.ends) c.agent_of-agent.result c.stop_of-stopped.result
-    c.agent_of-agent.ensures c.stop_of-stopped.ensures (mode_up (frozen_of x) x.mode (ap (λ (k : CoreValue). is_up k.plain.running) v ∙ c.requires.up)) c.requires.bytes c.requires.size c.in-Err-write_receiver.ensures plain c.requires.side.part
+    let side = c.in-Ok-kept_receiver.kept in
+    let is : side ≡ c.args.side = c.in-Ok-kept_receiver.ensures in
+    let part = c.requires.side.part ∙ ap (λ (k : ReceiverSide). noted_change c.args.channel.now c.args.note.now (SetReceiver c.args.channel.now k.hardened)) (sym is) in
+    let y : PartsValue = c.aside_for.new.parts in
+    let more = c.aside_for.ensures.more in
+    hardening_ends c.in-Err-write_receiver.unwritten (manager_of c.args.core.now) x y c.write_receiver.new.parts c.reserve.new.self.dids channel note (SetReceiver channel side.hardened) bytes (with_receivers (set_receiver side y.ends.receivers) y.ends) c.agent_of-agent.result c.stop_of-stopped.result
+    c.agent_of-agent.ensures c.stop_of-stopped.ensures (mode_up (frozen_of x) x.mode (ap (λ (k : CoreValue). is_up k.plain.running) v ∙ c.requires.up)) (more_aside x y more) c.requires.bytes c.requires.size c.in-Err-write_receiver.ensures.written plain part
     (ap (λ (w : CoreValue). w.faults) v) (c.reserve.ensures.dids ∙ ap (λ (w : CoreValue). w.delta) v)
 
 pub invariant_of-core-2 : goal.invariant_of-core-2
@@ -56,8 +81,12 @@ invariant_of-core-2 g c =
     let channel = c.args.channel.now in
     let note = c.args.note.now in
     let bytes = c.args.bytes.now in
-    let side = c.args.side in
-    hardened_tied bytes (with_receivers (set_receiver side x.ends.receivers) x.ends) x c.write_receiver.new.parts c.in-Ok-write_receiver.ensures c.core.invariant
+    let side = c.in-Ok-kept_receiver.kept in
+    let is : side ≡ c.args.side = c.in-Ok-kept_receiver.ensures in
+    let part = c.requires.side.part ∙ ap (λ (k : ReceiverSide). noted_change c.args.channel.now c.args.note.now (SetReceiver c.args.channel.now k.hardened)) (sym is) in
+    let y : PartsValue = c.aside_for.new.parts in
+    let more = c.aside_for.ensures.more in
+    hardened_tied bytes (with_receivers (set_receiver side y.ends.receivers) y.ends) x y c.write_receiver.new.parts (more_aside x y more) c.in-Ok-write_receiver.ensures.written.1 c.core.invariant
 
 pub returns-clause-meets : goal.returns-clause-meets
 returns-clause-meets g c =
@@ -67,31 +96,44 @@ returns-clause-meets g c =
     let channel = c.args.channel.now in
     let note = c.args.note.now in
     let bytes = c.args.bytes.now in
-    let side = c.args.side in
+    let side = c.in-Ok-kept_receiver.kept in
+    let is : side ≡ c.args.side = c.in-Ok-kept_receiver.ensures in
+    let part = c.requires.side.part ∙ ap (λ (k : ReceiverSide). noted_change c.args.channel.now c.args.note.now (SetReceiver c.args.channel.now k.hardened)) (sym is) in
+    let y : PartsValue = c.aside_for.new.parts in
+    let more = c.aside_for.ensures.more in
     let up = mode_up (frozen_of x) x.mode (ap (λ (p : Plain). is_up p.running) plain ∙ c.requires.up) in
-    let w = c.in-Ok-write_receiver.ensures in
-    let armed : x.log.armed ≡ c.args.core.now.plain.log.armed = ap (λ (p : Plain). p.log.armed) plain in
-    let faults : x.log.faults ≡ c.args.core.now.faults = ap (λ (w : CoreValue). w.faults) v in
-    hardened_meets (manager_of c.args.core.now) _ channel note (SetReceiver channel side.hardened) c.requires.side.part
-    (receiver_hardened (note_record channel note) bytes side channel x c.write_receiver.new.parts c.args.core.now.plain up c.requires.bytes c.requires.size w c.requires.side.named plain)
+    let w = c.in-Ok-write_receiver.ensures.written.1 in
+    let armed : y.log.armed ≡ c.args.core.now.plain.log.armed = ap (λ (p : PartsValue). p.log.armed) more.same ∙ ap (λ (p : Plain). p.log.armed) plain in
+    let faults : y.log.faults ≡ c.args.core.now.faults = ap (λ (p : PartsValue). p.log.faults) more.same ∙ ap (λ (w : CoreValue). w.faults) v in
+    let still : mode_is_up y.mode ≡ true = ap (λ (p : PartsValue). mode_is_up p.mode) more.same ∙ up in
+    hardened_meets (manager_of c.args.core.now) _ channel note (SetReceiver channel side.hardened) part
+    (receiver_hardened (note_record channel note) bytes side channel y c.write_receiver.new.parts c.args.core.now.plain still c.requires.bytes c.requires.size w (ap (λ (k : ReceiverSide). k.channel) is ∙ c.requires.side.named) (roomier_view x y more ∙ plain))
     (ap (λ (t : Telling). t.dids) c.tell.ensures ∙ ap (λ (ds : List Did). ds ++ did.Hardened channel note ∷ []) (c.reserve.ensures.dids ∙ ap (λ (w : CoreValue). w.delta) v))
     (ap (λ (w : CoreValue). w.stopped) v)
     (omega (arith, faults, w.later))
-    (λ some. let here : 0 < x.log.armed = omega (arith, armed, some) in let more = w.calls.1 here in omega (arith, armed, more))
+    (λ some. let here : 0 < y.log.armed = omega (arith, armed, some) in let more = w.calls.1 here in omega (arith, armed, more))
 
 pub returns-in-Err-write_receiver-clause-told : goal.returns-in-Err-write_receiver-clause-told
 returns-in-Err-write_receiver-clause-told g c =
     let v = c.core.view_is ∙ c.begin_call.ensures in
     let x : PartsValue = c.core.inside.parts in
-    let side = c.args.side in
-    hardening_told c.in-Err-write_receiver.unwritten c.args.core.now _ x c.write_receiver.new.parts c.args.channel.now c.args.note.now (SetReceiver c.args.channel.now side.hardened) c.args.bytes.now (with_receivers (set_receiver side x.ends.receivers) x.ends) c.agent_of-agent.result
-    c.agent_of-agent.ensures (mode_up (frozen_of x) x.mode (ap (λ (k : CoreValue). is_up k.plain.running) v ∙ c.requires.up)) c.requires.bytes c.requires.size c.in-Err-write_receiver.ensures c.requires.side.part (ap (λ (w : CoreValue). w.plain) v) (ap (λ (w : CoreValue). w.log) v) refl refl
+    let side = c.in-Ok-kept_receiver.kept in
+    let is : side ≡ c.args.side = c.in-Ok-kept_receiver.ensures in
+    let part = c.requires.side.part ∙ ap (λ (k : ReceiverSide). noted_change c.args.channel.now c.args.note.now (SetReceiver c.args.channel.now k.hardened)) (sym is) in
+    let y : PartsValue = c.aside_for.new.parts in
+    let more = c.aside_for.ensures.more in
+    hardening_told c.in-Err-write_receiver.unwritten c.args.core.now _ x y c.write_receiver.new.parts c.args.channel.now c.args.note.now (SetReceiver c.args.channel.now side.hardened) c.args.bytes.now (with_receivers (set_receiver side y.ends.receivers) y.ends) c.agent_of-agent.result
+    c.agent_of-agent.ensures (mode_up (frozen_of x) x.mode (ap (λ (k : CoreValue). is_up k.plain.running) v ∙ c.requires.up)) (more_aside x y more) c.requires.bytes c.requires.size c.in-Err-write_receiver.ensures.written part (ap (λ (w : CoreValue). w.plain) v) (ap (λ (w : CoreValue). w.log) v) refl refl
 
 pub returns-clause-told : goal.returns-clause-told
 returns-clause-told g c =
     let x : PartsValue = c.core.inside.parts in
-    let side = c.args.side in
+    let side = c.in-Ok-kept_receiver.kept in
+    let is : side ≡ c.args.side = c.in-Ok-kept_receiver.ensures in
+    let part = c.requires.side.part ∙ ap (λ (k : ReceiverSide). noted_change c.args.channel.now c.args.note.now (SetReceiver c.args.channel.now k.hardened)) (sym is) in
+    let y : PartsValue = c.aside_for.new.parts in
+    let more = c.aside_for.ensures.more in
     let r = note_record c.args.channel.now c.args.note.now in
-    hardened_wrote c.args.channel.now c.args.note.now (SetReceiver c.args.channel.now side.hardened) c.args.core.now.plain c.args.core.now.log _ c.requires.side.part c.requires.size.1
-    (hardened_bodies r c.args.bytes.now (with_receivers (set_receiver side x.ends.receivers) x.ends) x c.write_receiver.new.parts c.requires.bytes c.in-Ok-write_receiver.ensures
-    ∙ ap (behind_record (Some r)) (ap (λ (w : CoreValue). w.log) (c.core.view_is ∙ c.begin_call.ensures)))
+    hardened_wrote c.args.channel.now c.args.note.now (SetReceiver c.args.channel.now side.hardened) c.args.core.now.plain c.args.core.now.log _ part c.requires.size.1
+    (hardened_bodies r c.args.bytes.now (with_receivers (set_receiver side y.ends.receivers) y.ends) y c.write_receiver.new.parts c.requires.bytes c.in-Ok-write_receiver.ensures.written.1
+    ∙ ap (behind_record (Some r)) (roomier_bodies x y more ∙ ap (λ (w : CoreValue). w.log) (c.core.view_is ∙ c.begin_call.ensures)))

@@ -1,5 +1,7 @@
-use Rattle.std.proofs.Common.{◌≡◌, ℕ, ◌+◌, ◌≤◌, ◌∙◌, sym, ap, subst, refl, arith}
-use Rattle.std.specs.Prelude.{List, length, Ok, Err}
+use Rattle.std.proofs.Common.{◌≡◌, ℕ, ◌+◌, ◌≤◌, ◌∙◌, sym, ap, subst, refl, arith, inl, inr}
+use Rattle.std.specs.Prelude.{List, length, None, find, Ok, Err}
+use Rattle.std.specs.Str.{bytes_eq}
+use Rattle.mq_sides.specs.Places.{AreByName, standing}
 use Rattle.mq_base.specs.Outside.{Rose}
 use Rattle.mq_disk.specs.declared.cutter.Stop.{Stop}
 use Rattle.mq_log.specs.State.{LogState, Appended}
@@ -28,9 +30,9 @@ append_forced-requires-clause-live g c =
 pub append_forced-requires-clause-room : goal.append_forced-requires-clause-room
 append_forced-requires-clause-room g c = omega (arith, c.in-Ok.ensures.ok)
 
-pub returns-in-Err-append_forced : goal.returns-in-Err-append_forced
+pub returns-in-Err-append_forced-clause-written : goal.returns-in-Err-append_forced-clause-written
 unfolding roomier put_in
-returns-in-Err-append_forced g c =
+returns-in-Err-append_forced-clause-written g c =
     let x : PartsValue = c.args.parts.now in
     let seen = c.parts.view_is in
     let new : LogState = c.append_forced.new.self in
@@ -47,15 +49,16 @@ returns-in-Err-append_forced g c =
         calls = subst (λ (l : LogState). Stops l.armed (Err stop) new.armed) log a.ends;
         room = tt;
         enough = tt;
+        ends = tt;
         later = omega (arith, failed, a.later);
         disk = λ d. subst (λ (l : LogState). Rose l.faults new.faults) log (a.disk d);
       };
       down = c.go_down.ensures ∙ ap (λ (p : PartsValue). downed (writes.Hardened c.args.channel.now c.args.note.now) p) (λ i. record (seen i) { ends = put_in (sides i) (seen i).ends; log = new });
     }
 
-pub returns : goal.returns
+pub returns-clause-written : goal.returns-clause-written
 unfolding roomier put_in
-returns g c =
+returns-clause-written g c =
     let x : PartsValue = c.args.parts.now in
     let seen = c.parts.view_is in
     let new : LogState = c.append_forced.new.self in
@@ -64,13 +67,27 @@ returns g c =
     let kept = ap (λ (l : LogState). l.reserved) log in
     let failed = ap (λ (l : LogState). l.faults) log in
     let a = c.in-Ok-append_forced.ensures in
-    let sides = c.in-Ok-swap_side.ensures.ok ∙ ap (λ (p : PartsValue). set_receiver c.args.side p.ends.receivers) seen in
-    record {
-      same = λ i. record (seen i) { ends = put_in (sides i) (seen i).ends; log = new };
-      log = subst (λ (l : LogState). Appended l c.args.bytes.now (Ok tt) new) log a.appended;
-      calls = subst (λ (l : LogState). Stops l.armed (Ok tt) new.armed) log a.ends;
-      room = omega (arith, a.room, c.room.ensures.room, had);
-      enough = omega (arith, a.room, c.in-Ok.ensures.ok, kept);
-      later = omega (arith, failed, a.later);
-      disk = λ d. subst (λ (l : LogState). Rose l.faults new.faults) log (a.disk d);
-    }
+    let sides = c.in-Ok-swap_side.ensures.ok ∙ ap (λ (p : PartsValue). set_receiver c.args.side p.ends.receivers) seen in (
+      c.in-Ok-swap_side.ensures.before ∙ ap (λ (p : PartsValue). standing (λ (r : ReceiverSide). r.channel) c.args.side.channel p.ends.receivers) seen,
+      record {
+        same = λ i. record (seen i) { ends = put_in (sides i) (seen i).ends; log = new };
+        log = subst (λ (l : LogState). Appended l c.args.bytes.now (Ok tt) new) log a.appended;
+        calls = subst (λ (l : LogState). Stops l.armed (Ok tt) new.armed) log a.ends;
+        room = omega (arith, a.room, c.room.ensures.room, had);
+        enough = omega (arith, a.room, c.in-Ok.ensures.ok, kept);
+        ends = c.requires.ends;
+        later = omega (arith, failed, a.later);
+        disk = λ d. subst (λ (l : LogState). Rose l.faults new.faults) log (a.disk d);
+      },
+    )
+
+pub returns-in-Err-clause-lacks : goal.returns-in-Err-clause-lacks
+returns-in-Err-clause-lacks g c =
+    let had = ap (λ (p : PartsValue). p.log.room) c.parts.view_is in
+    let kept = ap (λ (p : PartsValue). p.log.reserved) c.parts.view_is in
+    let short = c.in-Err.ensures.memory in
+    inl (omega (arith, had, kept, short))
+
+pub returns-in-Err-swap_side-clause-lacks : goal.returns-in-Err-swap_side-clause-lacks
+returns-in-Err-swap_side-clause-lacks g c =
+    inr (subst (λ (p : PartsValue). AreByName (λ (r : ReceiverSide). r.channel) p.ends.receivers → find (λ (r : ReceiverSide). bytes_eq c.args.side.channel r.channel) p.ends.receivers ≡ None) c.parts.view_is c.in-Err-swap_side.ensures.lacks)

@@ -47,6 +47,7 @@ returns-in-Err-append_forced g c =
         calls = subst (λ (l : LogState). Stops l.armed (Err stop) new.armed) log a.ends;
         room = tt;
         enough = tt;
+        ends = tt;
         later = omega (arith, failed, a.later);
         disk = λ d. subst (λ (l : LogState). Rose l.faults new.faults) log (a.disk d);
       };
@@ -71,6 +72,7 @@ returns g c =
       calls = subst (λ (l : LogState). Stops l.armed (Ok tt) new.armed) log a.ends;
       room = omega (arith, a.room, c.room.ensures.room, had);
       enough = omega (arith, a.room, c.in-Ok.ensures.ok, kept);
+      ends = c.requires.ends;
       later = omega (arith, failed, a.later);
       disk = λ d. subst (λ (l : LogState). Rose l.faults new.faults) log (a.disk d);
     }

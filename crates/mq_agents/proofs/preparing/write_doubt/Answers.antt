@@ -34,6 +34,7 @@ returns-in-Err-append_forced g c =
         calls = subst (λ (l : LogState). Stops l.armed (Err stop) new.armed) log a.ends;
         room = tt;
         enough = tt;
+        ends = tt;
         later = omega (arith, failed, a.later);
         disk = λ d. subst (λ (l : LogState). Rose l.faults new.faults) log (a.disk d);
       };
@@ -59,6 +60,7 @@ returns g c =
       calls = subst (λ (l : LogState). Stops l.armed (Ok tt) new.armed) log a.ends;
       room = omega (arith, a.room, long, had);
       enough = omega (arith, a.room, long, had, c.requires.room);
+      ends = c.requires.ends;
       later = omega (arith, failed, a.later);
       disk = λ d. subst (λ (l : LogState). Rose l.faults new.faults) log (a.disk d);
     }

@@ -3,6 +3,7 @@ use Rattle.std.specs.Prelude.{length}
 use Rattle.mq_log.specs.State.{LogState}
 use Rattle.mq_record.specs.Room.{Buffered}
 use Rattle.mq_core.specs.Views.{PartsValue}
+use Rattle.mq_core.proofs.PutLaws.{more_room}
 use Rattle.mq_core.proofs.RoomLaws.{with_parts, given_up_queues}
 use Rattle.mq_core.proofs.parts.Parts.expect_put.Goals as goal
 
@@ -19,8 +20,6 @@ returns-in-Err-reserve-clause-err g c =
     let queues = given_up_queues c.args.queue.now c.self.inside.queues c.expect.new.self c.unpend.new.self c.in-Ok-expect.ensures.ok c.unpend.ensures ∙ ap (λ (x : PartsValue). x.queues) c.self.view_is in
     let same = c.in-Err-reserve.ensures.err ∙ c.clear.ensures in
     let room = ap (λ (b : Buffered). b.room + length b.bytes) same in
-    record {
-      same = ap (with_parts c.unpend.new.self c.room.new.self c.reserve.new.self) c.self.view_is ∙ (λ i. with_parts (queues i) (log i) c.reserve.new.self old);
-      log = let more = c.room.ensures.room in omega (arith, more, had);
-      body = omega (arith, room, taken);
-    }
+    let more = c.room.ensures.room in
+    more_room old _ (ap (with_parts c.unpend.new.self c.room.new.self c.reserve.new.self) c.self.view_is ∙ (λ i. with_parts (queues i) (log i) c.reserve.new.self old))
+    (omega (arith, more, had)) (omega (arith, room, taken))

@@ -1,0 +1,119 @@
+//! What channel ends have hardened, kept with the room that a manager needs for it.
+ghost use Rattle.std.specs.Prelude.{◌≡◌, ◌∷◌, [], ◌++◌, ◌≤◌, length, sum_by, IfOk, OnOk};
+ghost use Rattle.mq_calls.specs.Recovery.{listed};
+ghost use Rattle.mq_calls.specs.declared.state.SenderSide.{SenderSide};
+
+use mq_base::{Items, NoMemory};
+use mq_calls::{ReceiverSide, SenderSide};
+use mq_sides::{KeptReceiver, KeptSender, RowRoom};
+use mq_sync::InDoubt;
+use std::alloc::Global;
+
+fn add_sender(alloc: Global, kept: &mut Items<KeptSender>, side: SenderSide) -> Result<(), NoMemory>
+    ensures { OnOk result (kept.new ≡ kept.old ++ side ∷ []) }
+{
+    let side = match KeptSender::new(alloc, side) {
+        Ok(side) => side,
+        Err(NoMemory) => return Err(NoMemory),
+    };
+    if kept.push(side).is_err() {
+        return Err(NoMemory);
+    }
+    Ok(())
+}
+
+/// What senders have hardened, each with the room for the settlement of its unit in doubt.
+///
+/// # Errors
+///
+/// No memory.
+pub fn senders_of(alloc: Global, sides: Items<SenderSide>) -> Result<Items<KeptSender>, NoMemory>
+    ensures { IfOk result (λ kept. kept ≡ sides) }
+{
+    let mut kept = Items::new(alloc);
+    let mut left = sides.into_vec();
+    left.reverse();
+    while let Some(side) = left.pop() {
+        if add_sender(alloc, &mut kept, side).is_err() {
+            return Err(NoMemory);
+        }
+    }
+    Ok(kept)
+}
+
+fn add_receiver(
+    alloc: Global,
+    kept: &mut Items<KeptReceiver>,
+    side: ReceiverSide,
+) -> Result<(), NoMemory>
+    ensures { OnOk result (kept.new ≡ kept.old ++ side ∷ []) }
+{
+    let side = match KeptReceiver::new(alloc, side) {
+        Ok(side) => side,
+        Err(NoMemory) => return Err(NoMemory),
+    };
+    if kept.push(side).is_err() {
+        return Err(NoMemory);
+    }
+    Ok(())
+}
+
+/// What receivers have hardened, each with the room for the close of its session.
+///
+/// # Errors
+///
+/// No memory.
+pub fn receivers_of(
+    alloc: Global,
+    sides: Items<ReceiverSide>,
+) -> Result<Items<KeptReceiver>, NoMemory>
+    ensures { IfOk result (λ kept. kept ≡ sides) }
+{
+    let mut kept = Items::new(alloc);
+    let mut left = sides.into_vec();
+    left.reverse();
+    while let Some(side) = left.pop() {
+        if add_receiver(alloc, &mut kept, side).is_err() {
+            return Err(NoMemory);
+        }
+    }
+    Ok(kept)
+}
+
+/// How many idents a unit in doubt lists.
+fn listed_of(doubt: &Option<InDoubt>) -> usize
+    ensures { result ≡ length (listed doubt.now) }
+{
+    match doubt {
+        None => 0,
+        Some(doubt) => doubt.idents.len(),
+    }
+}
+
+/// How many idents all units in doubt list.
+fn all_listed(sides: &[SenderSide]) -> Result<usize, NoMemory>
+    ensures { IfOk result (λ n. n ≡ sum_by (λ (s : SenderSide). length (listed s.hardened.in_doubt)) sides.now) }
+{
+    let mut sum = 0usize;
+    for side in sides {
+        sum = match sum.checked_add(listed_of(&side.hardened.in_doubt)) {
+            Some(sum) => sum,
+            None => return Err(NoMemory),
+        };
+    }
+    Ok(sum)
+}
+
+/// Room for the rows of all units in doubt.
+///
+/// # Errors
+///
+/// No memory.
+pub fn rows_for(alloc: Global, sides: &Items<SenderSide>) -> Result<RowRoom, NoMemory>
+    ensures { IfOk result (λ rows. sum_by (λ (s : SenderSide). length (listed s.hardened.in_doubt)) sides.now ≤ rows.room) }
+{
+    match all_listed(sides.as_slice()) {
+        Ok(most) => RowRoom::with_room(alloc, most),
+        Err(NoMemory) => Err(NoMemory),
+    }
+}
