@@ -7,5 +7,5 @@ use Rattle.mq_events.proofs.node.Node.new.Goals as goal
 pub invariant_of-result : goal.invariant_of-result
 invariant_of-result g c =
     subst IsNode (sym c.recount.ensures.same)
-    (begun_counted c.args.parts c.requires.none c.requires.stamp c.requires.number c.requires.name c.requires.opens c.recount.new.self.few
-    (subst (λ (x : NodeState). c.recount.new.self.few ≡ true → HasFewRows x.manager.plain) c.recount.ensures.same c.recount.ensures.few))
+    (begun_counted c.args.parts c.requires.none c.requires.stamp c.requires.number c.requires.name c.requires.opens c.recount.new.self.spare.few
+    (subst (λ (x : NodeState). c.recount.new.self.spare.few ≡ true → HasFewRows x.manager.plain) c.recount.ensures.same c.recount.ensures.few))
