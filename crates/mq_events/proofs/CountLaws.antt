@@ -178,8 +178,11 @@ node_low s n is may = λ named.
 le_both : (a b c d : ℕ) → a ≤ b → b ≤ c → d ≡ c → a ≤ d
 le_both a b c d x y e = omega (arith, x, y, e)
 
+pub less_aside : (s t : NodeState) → AreAside s → t.spare ≡ s.spare → waiting_total t.own ≤ waiting_total s.own → AreAside t
+less_aside s t a spare waits = le_both (waiting_total t.own) (waiting_total s.own) s.spare.aside t.spare.aside waits a (ap (λ (x : Spare). x.aside) spare)
+
 pub aside_kept : (s t : NodeState) → AreAside s → KeepsCounts s t → AreAside t
-aside_kept s t a q = le_both (waiting_total t.own) (waiting_total s.own) s.spare.aside t.spare.aside q.waits a (ap (λ (x : Spare). x.aside) q.spare)
+aside_kept s t a q = less_aside s t a q.spare q.waits
 
 none_waits : (a b : ℕ) → a ≡ 0 → a ≤ b
 none_waits a b e = omega (arith, e)

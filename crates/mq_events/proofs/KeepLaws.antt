@@ -117,6 +117,42 @@ waiting_long [] = omega arith
 waiting_long (Sends e ∷ es) = suc_is (waiting_in (Sends e ∷ es)) (length es) (waiting_more (if awaits e.machine.state then 1 else 0) (waiting_in es) (length es) (one_if (awaits e.machine.state)) (waiting_long es))
 waiting_long (Receives e ∷ es) = le_suc (waiting_in es) (length es) (waiting_long es)
 
+-- an end that doesn't wait, in its place: no more wait
+none_more : (a b : ℕ) → a + 0 ≡ 0 → a + b ≤ b
+none_more a b e = omega (arith, e)
+
+some_more : (a b : ℕ) → b ≤ a + b
+some_more a b = omega arith
+
+under_one : (k a b : ℕ) → a ≤ b → k + a ≤ k + b
+under_one k a b le = omega (arith, le)
+
+le_trans : (a b c : ℕ) → a ≤ b → b ≤ c → a ≤ c
+le_trans a b c x y = omega (arith, x, y)
+
+head_less : (new : ChannelEnd) (ys : List ChannelEnd) → waiting_in (new ∷ []) ≡ 0 → waiting_in (new ∷ ys) ≤ waiting_in ys
+head_less (Sends e) ys none = none_more (if awaits e.machine.state then 1 else 0) (waiting_in ys) none
+head_less (Receives e) ys none = le_is (waiting_in ys) (waiting_in ys) refl
+
+tail_less : (y : ChannelEnd) (ys : List ChannelEnd) → waiting_in ys ≤ waiting_in (y ∷ ys)
+tail_less (Sends e) ys = some_more (if awaits e.machine.state then 1 else 0) (waiting_in ys)
+tail_less (Receives e) ys = le_is (waiting_in ys) (waiting_in ys) refl
+
+under : (y : ChannelEnd) (xs ys : List ChannelEnd) → waiting_in xs ≤ waiting_in ys → waiting_in (y ∷ xs) ≤ waiting_in (y ∷ ys)
+under (Sends e) xs ys le = under_one (if awaits e.machine.state then 1 else 0) (waiting_in xs) (waiting_in ys) le
+under (Receives e) xs ys le = le
+
+less_if : (new y : ChannelEnd) (ys : List ChannelEnd) (b : Bool) → waiting_in (new ∷ []) ≡ 0 → waiting_in (set_end new ys) ≤ waiting_in ys → waiting_in (if b then new ∷ ys else y ∷ set_end new ys) ≤ waiting_in (y ∷ ys)
+less_if new y ys true none le = le_trans (waiting_in (new ∷ ys)) (waiting_in ys) (waiting_in (y ∷ ys)) (head_less new ys none) (tail_less y ys)
+less_if new y ys false none le = under y (set_end new ys) ys le
+
+less_in : (new : ChannelEnd) (es : List ChannelEnd) → waiting_in (new ∷ []) ≡ 0 → waiting_in (set_end new es) ≤ waiting_in es
+less_in new [] none = le_is 0 0 refl
+less_in new (y ∷ ys) none = less_if new y ys (cable_of y == cable_of new) none (less_in new ys none)
+
+pub waits_less : (new : ChannelEnd) (own : Own) → waiting_in (new ∷ []) ≡ 0 → waiting_total (with_end new own) ≤ waiting_total own
+waits_less new own none = less_in new own.ends none
+
 -- an end in its place: there are as many
 set_if : (new e : ChannelEnd) (es : List ChannelEnd) (b : Bool) → length (set_end new es) ≡ length es → length (if b then new ∷ es else e ∷ set_end new es) ≡ length (e ∷ es)
 set_if new e es true h = refl
