@@ -261,3 +261,6 @@ pub begun_counted : (s : NodeState) → s.history.entries ≡ [] → s.stamp ≡
 begun_counted s none stamp number name is few rows =
     let t : NodeState = record s { spare = record s.spare { few = few } } in
     record { kept = begun_kept t none stamp number name is; counted = first_counted t is rows; risen = risen_none t.history.entries t.manager.faults none; aside = first_aside s is }
+
+pub spare_new : (s t : NodeState) → t ≡ record s { spare = record s.spare { few = t.spare.few } } → t ≡ record s { spare = t.spare }
+spare_new s t e = e ∙ ap (λ (x : NodeState). record s { spare = x.spare }) (sym e)
