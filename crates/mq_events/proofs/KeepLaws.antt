@@ -83,12 +83,12 @@ stopped_total false own = le_is (kept_total own) (kept_total own) refl
 -- and none of them waits
 rest_waiting : (es : List ChannelEnd) → waiting_in (map end_at_rest es) ≡ 0
 rest_waiting [] = refl
-rest_waiting (Sends e ∷ es) = rest_waiting es
+rest_waiting (Sends e ∷ es) = let h = rest_waiting es in omega (arith, h)
 rest_waiting (Receives e ∷ es) = rest_waiting es
 
 begun_waiting : (p : Plain) (es : List ChannelEnd) → waiting_in (map (end_begun p) es) ≡ 0
 begun_waiting p [] = refl
-begun_waiting p (Sends e ∷ es) = begun_waiting p es
+begun_waiting p (Sends e ∷ es) = let h = begun_waiting p es in omega (arith, h)
 begun_waiting p (Receives e ∷ es) = begun_waiting p es
 
 pub begun_waits : (p : Plain) (own : Own) → waiting_total (begun_anew p own).own ≡ 0
