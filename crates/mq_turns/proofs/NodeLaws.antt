@@ -102,3 +102,10 @@ pub aside_want : (cable : ℕ) (s r : NodeState) (x : Want) (reads writes : List
     → EndTurn (actors.Sender cable) reads writes empty full o o s (Err x) r
 aside_want cable s r x reads writes empty full o e read written = subst (λ (y : NodeState). EndTurn (actors.Sender cable) reads writes empty full o o s (Err x) y) (sym e)
     (record { stays = record { same = refl; marks = refl; faults = omega arith }; read = read; offers = record { same = refl; written = written } })
+
+-- said of its node
+pub ended_at : (cable : ℕ) (reads writes : List Item → Type 0) (empty full : Type 0) (o n : Offering) (s p t : NodeState) (result : Result Turn Want) → p ≡ s → EndTurn (actors.Sender cable) reads writes empty full o n p result t
+    → EndTurn (actors.Sender cable) reads writes empty full o n s result t
+ended_at cable reads writes empty full o n s p t result is h =
+    let E : NodeState → Type 0 = λ x. EndTurn (actors.Sender cable) reads writes empty full o n x result t in
+    subst E is h

@@ -2,8 +2,8 @@ use Rattle.mq_turns.proofs.WaitLaws.{due_aside}
 use Rattle.mq_turns.proofs.TimedLaws.{drawn_due, drawn_kept, drawn_may, drawn_room, drawn_served, timed_did, timed_node}
 use Rattle.mq_turns.proofs.timing.time_out_aside.Goals as goal
 
-pub draw-requires-clause-aside : goal.draw-requires-clause-aside
-draw-requires-clause-aside g c = due_aside c.args.parts.now c.args.end c.requires.due c.requires.node.aside
+pub draw-requires : goal.draw-requires
+draw-requires g c = record { aside = due_aside c.args.parts.now c.args.end c.requires.due c.requires.node.aside }
 
 pub time_out-requires-clause-room : goal.time_out-requires-clause-room
 time_out-requires-clause-room g c = drawn_room c.args.parts.now c.draw.new.self c.draw.ensures
