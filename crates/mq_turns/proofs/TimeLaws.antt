@@ -9,7 +9,7 @@ use Rattle.mq_history.specs.declared.calls.Call.TheVariants as calls
 use Rattle.mq_sender.specs.States.{awaits, is_running, timed_out}
 use Rattle.mq_spec_manager.specs.Agents.{IsUp}
 use Rattle.mq_spec_node.specs.Terms.{Did, Message, Plain, Part}
-use Rattle.mq_spec_node.specs.Words.{Own, SenderEnd, Deed, deed_of, sender_end, after_timeout, with_end}
+use Rattle.mq_spec_node.specs.Words.{Own, SenderEnd, Deed, sender_end, after_timeout, with_end}
 use Rattle.mq_spec_node.specs.Node.ChannelEnd.{Sends}
 use Rattle.mq_core.specs.Values.{CoreValue}
 use Rattle.mq_events.specs.Counts.{waiting_total}

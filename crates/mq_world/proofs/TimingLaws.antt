@@ -9,7 +9,7 @@ use Rattle.mq_history.specs.declared.calls.Call.TheVariants as calls
 use Rattle.mq_history.specs.declared.history.History.{History}
 use Rattle.mq_history.specs.declared.scenario.CableLine.{CableLine}
 use Rattle.mq_spec_node.specs.Terms.{Entry}
-use Rattle.mq_spec_node.specs.Words.{Deed, Node, Surroundings, deed_of, is_receiver, is_sender, is_spent, opening_node, stamp_after}
+use Rattle.mq_spec_node.specs.Words.{Deed, Node, Surroundings, is_receiver, is_sender, is_spent, opening_node, stamp_after}
 use Rattle.mq_spec_node.specs.Replays.{Follows, Tells, after}
 use Rattle.mq_spec_network.specs.Steps.{TakesTurn, popped_by, pushed_of, turn_in}
 use Rattle.mq_spec_network.specs.Story.{entries_at}
