@@ -19,7 +19,7 @@ use Rattle.mq_events.specs.Counts.{IsNode, KeepsCounts, kept_total}
 use Rattle.mq_events.specs.Disks.{RoseBy, disk_failed}
 use Rattle.mq_events.specs.Events.{ActsAs, Stays}
 use Rattle.mq_events.proofs.CallLaws.{silent}
-use Rattle.mq_events.proofs.CountLaws.{climbs_counted, long_more}
+use Rattle.mq_events.proofs.CountLaws.{aside_kept, climbs_counted, long_more}
 use Rattle.mq_events.proofs.EventLaws.{came_kept, served_is}
 use Rattle.mq_events.proofs.KeepLaws.{finished_counts}
 use Rattle.mq_events.proofs.RiseLaws.{risen_with}
@@ -28,7 +28,7 @@ use Rattle.mq_events.proofs.StepLaws.{roomed_stays}
 -- ---- where memory lacks, all is as it was
 
 pub roomed_node : (s r : NodeState) → r ≡ record s { room = r.room } → IsNode s → IsNode r
-roomed_node s r e n = let t : NodeState = record s { room = r.room } in let k : IsNode t = record { kept = n.kept; counted = n.counted; risen = n.risen } in subst IsNode (sym e) k
+roomed_node s r e n = let t : NodeState = record s { room = r.room } in let k : IsNode t = record { kept = n.kept; counted = n.counted; risen = n.risen; aside = n.aside } in subst IsNode (sym e) k
 
 pub room_stays : (s r : NodeState) → r ≡ record s { room = r.room } → Stays s r
 room_stays s r e = roomed_stays s r e
@@ -65,8 +65,9 @@ module _ (s r f : NodeState) (who : Actor) (c : Command) (a : Acted) (e : r ≡ 
   pub answered_node : disk_failed (replies.Acted a) ≡ false → IsNode s → IsServed s → IsNode f
   answered_node quiet n served = subst IsNode (sym f_is) (record {
     kept = behind_kept n.kept served;
-    counted = climbs_counted 0 s behind n.counted counts.few (long_more s.history.entries (entry_of (s.stamp + 1) who call (quietly a))) (stay 0 s.manager.plain) (climbs_on (kept_total behind.own) (kept_total s.own) counts.total);
+    counted = climbs_counted 0 s behind n.counted refl (long_more s.history.entries (entry_of (s.stamp + 1) who call (quietly a))) (stay 0 s.manager.plain) (climbs_on (kept_total behind.own) (kept_total s.own) counts.total);
     risen = risen_with s.history.entries (entry_of (s.stamp + 1) who call (quietly a)) s.manager.faults s.manager.faults n.risen (le_self s.manager.faults) (told_none quiet);
+    aside = aside_kept s behind n.aside counts;
   })
 
   pub answered_as : (b : Acted) → b ≡ a → disk_failed (replies.Acted a) ≡ false → ActsAs who (calls.Act (acts.Obey c)) s (Ok b) f

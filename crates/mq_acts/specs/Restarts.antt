@@ -101,8 +101,8 @@ StayedAs e (Err x) = is_wanting e.fault ≡ true
 
 -- where it came up its rows were counted, else it is as it was
 abbrev pub BeganFew : Option RestartFault → NodeState → NodeState → Type 0
-BeganFew None old new = new.few ≡ true → HasFewRows new.manager.plain
-BeganFew (Some fault) old new = new.few ≡ old.few
+BeganFew None old new = new.spare.few ≡ true → HasFewRows new.manager.plain
+BeganFew (Some fault) old new = new.spare.few ≡ old.spare.few
 
 -- where no restart before was from a log that was changed from outside, this one is none
 abbrev pub RestartIsOwn : Act → List Entry → List Entry → Type 0

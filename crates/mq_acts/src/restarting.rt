@@ -147,7 +147,7 @@ fn restart_parts<D: Disk>(parts: &mut NodeParts<D>) -> Result<Restarted, NoMemor
 
 /// Where the manager came up, the node's own begins.
 fn begin_parts<D: Disk>(parts: &mut NodeParts<D>, refused: Option<RestartFault>)
-    ensures same { parts.new ≡ record parts.old { own = own_behind refused parts.old.manager.plain parts.old.own; few = parts.new.few } }
+    ensures same { parts.new ≡ record parts.old { own = own_behind refused parts.old.manager.plain parts.old.own; spare = record parts.old.spare { few = parts.new.spare.few } } }
     ensures few { BeganFew refused parts.old parts.new }
 {
     match refused {

@@ -22,10 +22,10 @@ use Rattle.mq_law_image.proofs.Growing.{handles_more}
 use Rattle.mq_law_log.proofs.Bridge.{all_of}
 use Rattle.mq_law_counts.specs.Counts.{Climbs, IsCountedCall}
 use Rattle.mq_law_counts.proofs.Deeds.{event_climbs}
-use Rattle.mq_events.specs.States.{NodeState, IsKept, IsLow, marked, node_in, value_of}
-use Rattle.mq_events.specs.Counts.{AreBelow, AreCounted, HasBound, HasFewRows, IsNode, KeepsCounts, kept_total}
+use Rattle.mq_events.specs.States.{NodeState, Spare, IsKept, IsLow, marked, node_in, value_of}
+use Rattle.mq_events.specs.Counts.{AreAside, AreBelow, AreCounted, HasBound, HasFewRows, IsNode, KeepsCounts, kept_total, waiting_total}
 use Rattle.mq_events.specs.Events.{ActsAs, Adds, EventIs, IsMqi, MayAct, ServesOne, Stays}
-use Rattle.mq_events.proofs.KeepLaws.{begun_none}
+use Rattle.mq_events.proofs.KeepLaws.{begun_none, begun_waits, waiting_long}
 use Rattle.mq_events.proofs.ReplayLaws.{after_more}
 use Rattle.mq_events.proofs.MarkLaws.{begun_kept, mark_kept}
 use Rattle.mq_events.proofs.RiseLaws.{risen_event, risen_more, risen_none, risen_still}
@@ -57,7 +57,7 @@ fits_more : (most n old new long longer : ℕ) → most + old ≤ 2 ^ 62 + 1024 
 fits_more most n old new long longer f l k = omega (arith, f, l, k)
 
 -- An event that raises them by so much, in one entry: the messages that receivers have kept count as raised already.
-pub climbs_counted : (n : ℕ) (s t : NodeState) → AreCounted s → t.few ≡ s.few → length t.history.entries ≡ length s.history.entries + 1 → Climbs n s.manager.plain t.manager.plain → kept_total t.own + n ≤ kept_total s.own + 1024 → AreCounted t
+pub climbs_counted : (n : ℕ) (s t : NodeState) → AreCounted s → t.spare.few ≡ s.spare.few → length t.history.entries ≡ length s.history.entries + 1 → Climbs n s.manager.plain t.manager.plain → kept_total t.own + n ≤ kept_total s.own + 1024 → AreCounted t
 climbs_counted n s t b few longer climbs kept = λ is.
     let h : HasBound (value_of s) = b (sym few ∙ is) in
     record {
@@ -80,10 +80,10 @@ pub counted_more : (who : Actor) (what : Call) (e : Entry) (s t : NodeState) →
 counted_more who what e s t k l c b q a =
     let climbs : Climbs 3 s.manager.plain (done_by e (node_in s)).next.manager = event_climbs e.stamp e.actor e.call e.chance e.effect.popped (node_in s) (subst IsCountedCall (sym a.call) c) in
     let C : Node → Type 0 = λ n. Climbs 3 s.manager.plain n.manager in
-    climbs_counted 3 s t b q.few (adds_long who what e s t a) (subst C (sym (next_is who what e s t k l a)) climbs) (three (kept_total t.own) (kept_total s.own) q.total)
+    climbs_counted 3 s t b (ap (λ (x : Spare). x.few) q.spare) (adds_long who what e s t a) (subst C (sym (next_is who what e s t k l a)) climbs) (three (kept_total t.own) (kept_total s.own) q.total)
 
 pub counted_still : (s t : NodeState) → AreCounted s → KeepsCounts s t → Stays s t → AreCounted t
-counted_still s t b q k = λ is. subst HasBound (sym k.same) (b (sym q.few ∙ is))
+counted_still s t b q k = λ is. subst HasBound (sym k.same) (b (ap (λ (x : Spare). x.few) (sym q.spare) ∙ is))
 
 -- With what a manager begins, each queue has counted its rows alone.
 numbered_long : (n : ℕ) (rows : List Row) → length (numbered n rows) ≡ length rows
@@ -118,7 +118,7 @@ first_fits : (kept long : ℕ) → kept ≡ 0 → 2 ^ 62 + kept ≤ 2 ^ 62 + 102
 first_fits kept long e = omega (arith, e)
 
 -- so behind a restart, too
-pub fresh_counted : (s : NodeState) (given : Given) (image : Image) (log : LogState) (moment : ℕ) → s.manager.plain ≡ begun given image log moment → (s.few ≡ true → HasFewRows s.manager.plain) → kept_total s.own ≡ 0 → AreCounted s
+pub fresh_counted : (s : NodeState) (given : Given) (image : Image) (log : LogState) (moment : ℕ) → s.manager.plain ≡ begun given image log moment → (s.spare.few ≡ true → HasFewRows s.manager.plain) → kept_total s.own ≡ 0 → AreCounted s
 fresh_counted s given image log moment is few none = λ few_is. record {
   most = 2 ^ 62;
   below = subst (AreBelow (2 ^ 62)) (sym is) (begun_below given image log moment (subst HasFewRows is (few few_is)));
@@ -126,7 +126,7 @@ fresh_counted s given image log moment is few none = λ few_is. record {
 }
 
 -- with what a node begins
-pub first_counted : (s : NodeState) → node_in s ≡ opening_node s.given s.history → (s.few ≡ true → HasFewRows s.manager.plain) → AreCounted s
+pub first_counted : (s : NodeState) → node_in s ≡ opening_node s.given s.history → (s.spare.few ≡ true → HasFewRows s.manager.plain) → AreCounted s
 first_counted s is few =
     let h : History = s.history in
     fresh_counted s s.given.given (raised 0 h.opening) (record { length = h.length + started_need s.given.given; armed = 0 }) h.moment
@@ -167,12 +167,45 @@ queues_counted most p named b = all_of (IsCounted most p) p.queues (λ q m. reco
   due = subst (λ (x : Queue). x.due + puts_to q.name p.connections ≤ most) (entry_found p.queues named q m) (b.due q.name);
 })
 
-pub node_low : (s : NodeState) → IsNode s → s.few ≡ true → MayAct s → IsLow s
+pub node_low : (s : NodeState) → IsNode s → s.spare.few ≡ true → MayAct s → IsLow s
 node_low s n is may = λ named.
     let h : HasBound (value_of s) = n.counted is in
     let room : length s.history.entries < 2 ^ 48 = few (2 ^ 48) (length s.history.entries) (no_first (nat_le (2 ^ 48) (length s.history.entries)) (nat_le (2 ^ 60) s.stamp) may) in
     let b : AreBelow (2 ^ 63) s.manager.plain = higher h.most (2 ^ 63) s.manager.plain (below_all h.most (kept_total s.own) (length s.history.entries) room h.fits) h.below in
     record { idents = b.idents; connections = b.connections; handles = b.handles; queues = queues_counted (2 ^ 63) s.manager.plain named b }
+
+-- What is set aside suffices.
+le_both : (a b c d : ℕ) → a ≤ b → b ≤ c → d ≡ c → a ≤ d
+le_both a b c d x y e = omega (arith, x, y, e)
+
+pub less_aside : (s t : NodeState) → AreAside s → t.spare ≡ s.spare → waiting_total t.own ≤ waiting_total s.own → AreAside t
+less_aside s t a spare waits = le_both (waiting_total t.own) (waiting_total s.own) s.spare.aside t.spare.aside waits a (ap (λ (x : Spare). x.aside) spare)
+
+pub aside_kept : (s t : NodeState) → AreAside s → KeepsCounts s t → AreAside t
+aside_kept s t a q = less_aside s t a q.spare q.waits
+
+none_waits : (a b : ℕ) → a ≡ 0 → a ≤ b
+none_waits a b e = omega (arith, e)
+
+first_aside : (s : NodeState) → node_in s ≡ opening_node s.given s.history → AreAside s
+first_aside s is = none_waits (waiting_total s.own) s.spare.aside (ap (λ (n : Node). waiting_total n.own) is ∙ begun_waits (opening_node s.given s.history).manager s.given.own)
+
+-- where an entry was set aside for each end, and there are no more ends
+le_chain : (a b c d e : ℕ) → a ≤ b → b ≡ c → c ≤ d → e ≡ d → a ≤ e
+le_chain a b c d e x i y j = omega (arith, x, i, y, j)
+
+pub aside_long : (s t : NodeState) → length s.own.ends ≤ s.spare.aside → t.spare ≡ s.spare → length t.own.ends ≡ length s.own.ends → AreAside t
+aside_long s t le spare long = le_chain (waiting_total t.own) (length t.own.ends) (length s.own.ends) s.spare.aside t.spare.aside (waiting_long t.own.ends) long le (ap (λ (x : Spare). x.aside) spare)
+
+-- and that leaves a node what it is
+le_up : (a b c : ℕ) → a ≤ b → b ≤ c → a ≤ c
+le_up a b c x y = omega (arith, x, y)
+
+pub set_aside_node : (s r : NodeState) → r ≡ record s { spare = r.spare; room = r.room } → r.spare.few ≡ s.spare.few → s.spare.aside ≤ r.spare.aside → IsNode s → IsNode r
+set_aside_node s r e few more n = subst IsNode (sym e) (at r.spare r.room few more)
+  where
+    at : (spare : Spare) (room : ℕ) → spare.few ≡ s.spare.few → s.spare.aside ≤ spare.aside → IsNode (record s { spare = spare; room = room })
+    at spare room same le = record { kept = n.kept; counted = λ is. n.counted (sym same ∙ is); risen = n.risen; aside = le_up (waiting_total s.own) s.spare.aside spare.aside n.aside le }
 
 -- the calls of a node
 mqi_counted : (what : Call) → IsMqi what → IsCountedCall what
@@ -198,16 +231,16 @@ counted_event who what None s (Ok false) t k l m b q h = counted_still s t b q h
 counted_event who what (Some d) s (Ok false) t k l m b q h = absurd h
 
 pub applied_counted : (who : Actor) (what : Call) (d : Option Deed) (s : NodeState) (r : Result Bool Want) (t : NodeState) → IsNode s → IsKept t → IsMqi what → KeepsCounts s t → EventIs who what d s r t → IsNode t
-applied_counted who what d s r t n l m q h = record { kept = l; counted = counted_event who what d s r t n.kept l m n.counted q h; risen = risen_event who what d s r t n.risen h }
+applied_counted who what d s r t n l m q h = record { kept = l; counted = counted_event who what d s r t n.kept l m n.counted q h; risen = risen_event who what d s r t n.risen h; aside = aside_kept s t n.aside q }
 
 pub served_counted : (s : NodeState) (r : Result Bool Want) (t : NodeState) → IsNode s → IsKept t → KeepsCounts s t → ServesOne s r t → IsNode t
-served_counted s (Ok true) t n l q h = record { kept = l; counted = counted_more h.0 calls.Trigger h.1 s t n.kept l tt n.counted q h.2; risen = risen_more h.0 calls.Trigger h.1 s t n.risen h.2 }
-served_counted s (Ok false) t n l q h = record { kept = l; counted = counted_still s t n.counted q h.0; risen = risen_still s t n.risen h.0 }
-served_counted s (Err e) t n l q h = record { kept = l; counted = counted_still s t n.counted q h; risen = risen_still s t n.risen h }
+served_counted s (Ok true) t n l q h = record { kept = l; counted = counted_more h.0 calls.Trigger h.1 s t n.kept l tt n.counted q h.2; risen = risen_more h.0 calls.Trigger h.1 s t n.risen h.2; aside = aside_kept s t n.aside q }
+served_counted s (Ok false) t n l q h = record { kept = l; counted = counted_still s t n.counted q h.0; risen = risen_still s t n.risen h.0; aside = aside_kept s t n.aside q }
+served_counted s (Err e) t n l q h = record { kept = l; counted = counted_still s t n.counted q h; risen = risen_still s t n.risen h; aside = aside_kept s t n.aside q }
 
 pub acted_counted : (who : Actor) (what : Call) (s : NodeState) (r : Result Acted Want) (t : NodeState) → IsCountedCall what → IsNode s → IsKept t → KeepsCounts s t → ActsAs who what s r t → IsNode t
-acted_counted who what s (Ok a) t c n l q h = record { kept = l; counted = counted_more who what h.0 s t n.kept l c n.counted q h.1; risen = risen_more who what h.0 s t n.risen h.1 }
-acted_counted who what s (Err e) t c n l q h = record { kept = l; counted = counted_still s t n.counted q h; risen = risen_still s t n.risen h }
+acted_counted who what s (Ok a) t c n l q h = record { kept = l; counted = counted_more who what h.0 s t n.kept l c n.counted q h.1; risen = risen_more who what h.0 s t n.risen h.1; aside = aside_kept s t n.aside q }
+acted_counted who what s (Err e) t c n l q h = record { kept = l; counted = counted_still s t n.counted q h; risen = risen_still s t n.risen h; aside = aside_kept s t n.aside q }
 
 -- Where nothing is done, all is as it was.
 same_stays : (s : NodeState) → Stays s s
@@ -221,10 +254,13 @@ same_turn s x = same_stays s
 
 -- marks and openings
 pub marked_counted : (idle : Bool) (s : NodeState) → IsNode s → IsNode (marked idle s)
-marked_counted idle s n = record { kept = mark_kept idle s n.kept; counted = λ is. let h : HasBound (value_of s) = n.counted is in record { most = h.most; below = h.below; fits = h.fits }; risen = n.risen }
+marked_counted idle s n = record { kept = mark_kept idle s n.kept; counted = λ is. let h : HasBound (value_of s) = n.counted is in record { most = h.most; below = h.below; fits = h.fits }; risen = n.risen; aside = n.aside }
 
 pub begun_counted : (s : NodeState) → s.history.entries ≡ [] → s.stamp ≡ 0 → s.history.number ≡ s.given.given.number → s.history.name ≡ s.given.given.name → node_in s ≡ opening_node s.given s.history → (few : Bool) → (few ≡ true → HasFewRows s.manager.plain)
-    → IsNode (record s { few = few })
+    → IsNode (record s { spare = record s.spare { few = few } })
 begun_counted s none stamp number name is few rows =
-    let t : NodeState = record s { few = few } in
-    record { kept = begun_kept t none stamp number name is; counted = first_counted t is rows; risen = risen_none t.history.entries t.manager.faults none }
+    let t : NodeState = record s { spare = record s.spare { few = few } } in
+    record { kept = begun_kept t none stamp number name is; counted = first_counted t is rows; risen = risen_none t.history.entries t.manager.faults none; aside = first_aside s is }
+
+pub spare_new : (s t : NodeState) → t ≡ record s { spare = record s.spare { few = t.spare.few } } → t ≡ record s { spare = t.spare }
+spare_new s t e = e ∙ ap (λ (x : NodeState). record s { spare = x.spare }) (sym e)

@@ -9,15 +9,27 @@ use Rattle.mq_manager.specs.Facts.{MayCount}
 use Rattle.mq_core.specs.Values.{CoreValue}
 use Rattle.mq_events.specs.declared.outcome.Outcome.{Outcome}
 
--- What the scenario gives it, its history, its manager, its own, its last stamp; whether its manager had few rows when it began;
--- for how many more entries and marks there is room.
+-- Entries; for how many more there is room, and for how many the memory is set aside.
+pub record EntriesState : Type 0 where
+  pub list : List Entry
+  pub room : ℕ
+  pub aside : ℕ
+
+-- What a node has to spare for later events: whether its manager had few rows when it began, so that its counters may rise; how many
+-- entries are set aside, for timeouts of its senders.
+pub record Spare : Type 0 where
+  pub few : Bool
+  pub aside : ℕ
+
+-- What the scenario gives it, its history, its manager, its own, its last stamp, what it has to spare; for how many more entries, beside
+-- those that are set aside, and for how many more marks there is room.
 pub record NodeState : Type 0 where
   pub given : Surroundings
   pub history : History
   pub manager : CoreValue
   pub own : Own
   pub stamp : ℕ
-  pub few : Bool
+  pub spare : Spare
   pub room : ℕ
   pub marks : ℕ
 

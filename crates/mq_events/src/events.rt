@@ -135,7 +135,7 @@ impl<D: Disk> NodeParts<D> {
     fn last_actor(&self) -> Option<Actor>
         ensures { result ≡ last_actor None self.now.history.entries }
     {
-        last_of(&self.entries)
+        last_of(self.entries.as_slice())
     }
 
     /// A trigger turn for this queue, which is due, as an event of who acted last.

@@ -5,6 +5,7 @@ mod acting;
 mod calling;
 mod commanding;
 mod counting;
+mod entries;
 mod events;
 mod node;
 mod obeying;
@@ -13,6 +14,7 @@ mod state;
 
 pub use calling::{mqback, mqclose, mqcmit, mqconn, mqdisc, mqget, mqopen, mqput, mqput1, trigger};
 pub use counting::has_few_rows;
+pub use entries::Entries;
 pub use node::Node;
 pub use obeying::obey;
 pub use outcome::{Obeyed, Outcome, Told};

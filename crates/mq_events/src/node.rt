@@ -45,7 +45,7 @@ impl<D: Disk> Node<D> {
         requires number { parts.history.number ≡ parts.given.given.number }
         requires name { parts.history.name ≡ parts.given.given.name }
         requires opens { node_in parts ≡ opening_node parts.given parts.history }
-        ensures { result ≡ record parts { few = result.few } }
+        ensures { result ≡ record parts { spare = result.spare } }
     {
         parts.recount();
         Node { parts }

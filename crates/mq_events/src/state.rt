@@ -1,11 +1,12 @@
 //! The parts of a node, and its history.
-ghost use Rattle.std.specs.Prelude.{◌≡◌, ◌<◌, ◌≤◌, ◌+◌, ◌^◌, OnOk, length, true};
+ghost use Rattle.std.specs.Prelude.{◌≡◌, ◌<◌, ◌≤◌, ◌+◌, ◌-◌, ◌^◌, OnOk, length, true};
 ghost use Rattle.mq_spec_node.specs.Values.{is_spent};
 ghost use Rattle.mq_events.specs.States.{value_of, forgotten_if, told, finished, quietly, marked, with_entry};
 ghost use Rattle.mq_events.specs.Counts.{HasFewRows};
 ghost use Rattle.mq_history.specs.declared.calls.Call.TheVariants as calls;
 
 use crate::counting::has_few_rows;
+use crate::entries::Entries;
 use crate::outcome::Outcome;
 use mq_base::{Items, NoMemory, QName};
 use mq_calls::{Choice, Did, Image};
@@ -44,7 +45,7 @@ pub struct NodeParts<D: Disk> {
     /// What the scenario gave it as its own.
     pub first: Snapshot<Own>,
     pub opening: Opening,
-    pub entries: Vec<Entry>,
+    pub entries: Entries,
     pub marks: Vec<Mark>,
     /// That of its last entry, 0 before the first.
     pub stamp: u64,
@@ -61,12 +62,12 @@ impl<D: Disk> Model for NodeParts<D> {
 
     ghost view = { λ n. record {
       given = record { given = record { number = n.opening.number; name = n.opening.name; log_max = n.opening.log_max }; own = n.first.value };
-      history = record { number = n.opening.number; name = n.opening.name; opening = n.opening.image; length = n.opening.length; moment = n.opening.moment; entries = n.entries.items; marks = n.marks.items };
+      history = record { number = n.opening.number; name = n.opening.name; opening = n.opening.image; length = n.opening.length; moment = n.opening.moment; entries = n.entries.list; marks = n.marks.items };
       manager = n.manager;
       own = n.own;
       stamp = n.stamp;
-      few = n.few;
-      room = vec_capacity n.entries - vec_len n.entries;
+      spare = record { few = n.few; aside = n.entries.aside };
+      room = n.entries.room;
       marks = vec_capacity n.marks - vec_len n.marks;
     } };
 }
@@ -83,7 +84,7 @@ fn forget_if(own: &mut Own, choice: &Choice, delta: &[Did])
 }
 
 impl<D: Disk> NodeParts<D> {
-    /// Takes the memory of so many entries.
+    /// Takes the memory of so many entries, beside those that are set aside.
     ///
     /// # Errors
     ///
@@ -93,16 +94,36 @@ impl<D: Disk> NodeParts<D> {
         ensures ok { OnOk result (more ≤ self.new.room) }
         ensures least { self.old.room ≤ self.new.room }
     {
-        if self.entries.reserve(more).is_err() {
-            return Err(NoMemory);
-        }
-        Ok(())
+        self.entries.reserve(more)
+    }
+
+    /// Sets the memory of an entry aside for each end of a channel, before a turn or a command that may change them: whichever senders
+    /// wait for an answer behind it, the entry of each one's timeout has room.
+    ///
+    /// # Errors
+    ///
+    /// No memory.
+    pub fn set_aside(&mut self) -> Result<(), NoMemory>
+        ensures same { self.new ≡ record self.old { spare = self.new.spare; room = self.new.room } }
+        ensures few { self.new.spare.few ≡ self.old.spare.few }
+        ensures ok { OnOk result (length self.new.own.ends ≤ self.new.spare.aside) }
+        ensures more { self.old.spare.aside ≤ self.new.spare.aside }
+    {
+        self.entries.set_aside(self.own.ends.len())
+    }
+
+    /// Room for an entry that was set aside. It takes no memory.
+    pub fn draw(&mut self)
+        requires aside { 0 < self.old.spare.aside }
+        ensures { self.new ≡ record self.old { spare = record self.old.spare { aside = self.old.spare.aside - 1 }; room = self.old.room + 1 } }
+    {
+        self.entries.draw();
     }
 
     /// Notes whether its manager has few rows, as it begins. It walks over all queues, and takes no memory.
     pub fn recount(&mut self)
-        ensures same { self.new ≡ record self.old { few = self.new.few } }
-        ensures few { self.new.few ≡ true → HasFewRows self.new.manager.plain }
+        ensures same { self.new ≡ record self.old { spare = record self.old.spare { few = self.new.spare.few } } }
+        ensures few { self.new.spare.few ≡ true → HasFewRows self.new.manager.plain }
     {
         self.few = has_few_rows(&self.manager.core);
     }
@@ -132,7 +153,7 @@ impl<D: Disk> NodeParts<D> {
         ensures { self.new ≡ with_entry entry self.old }
     {
         self.stamp = entry.stamp;
-        self.entries.push_reserved(entry);
+        self.entries.add(entry);
     }
 
     /// One entry more, which offers nothing and takes nothing, in room that is there.

@@ -1,5 +1,5 @@
 -- A handler's turn raises its manager's counters by three at most.
-use Rattle.std.proofs.Common.{◌≡◌, ℕ, ◌+◌, ◌≤◌, sym, subst, List, [], ◌∷◌, ◌++◌, Bool, true, false, not, arith}
+use Rattle.std.proofs.Common.{◌≡◌, ℕ, ◌+◌, ◌≤◌, sym, ap, subst, List, [], ◌∷◌, ◌++◌, Bool, true, false, not, arith}
 use Rattle.std.specs.Prelude.{Option, Some, None, Result, Ok, Err, filter, slice_get}
 use Rattle.mq_base.specs.declared.want.NoMemory.{NoMemory as Want}
 use Rattle.mq_calls.specs.declared.deltas.Why.TheVariants as whys
@@ -28,10 +28,10 @@ use Rattle.mq_law_image.specs.Bounds.{all_growth}
 use Rattle.mq_law_counts.specs.Counts.{Climbs, PartsClimb, StepClimbs}
 use Rattle.mq_law_counts.proofs.Climbing.{grown, none_climb, one_climbs, stay}
 use Rattle.mq_events.proofs.NumberLaws.{tested_all}
-use Rattle.mq_events.specs.States.{IsKept, NodeState, node_in}
+use Rattle.mq_events.specs.States.{IsKept, NodeState, Spare, node_in}
 use Rattle.mq_events.specs.Counts.{AreCounted, IsNode, KeepsCounts, kept_total}
 use Rattle.mq_events.specs.Events.{Adds}
-use Rattle.mq_events.proofs.CountLaws.{adds_long, climbs_counted, counted_still, next_is}
+use Rattle.mq_events.proofs.CountLaws.{adds_long, aside_kept, climbs_counted, counted_still, next_is}
 use Rattle.mq_events.proofs.RiseLaws.{risen_more, risen_still}
 use Rattle.mq_handle.specs.Turns.{Turns}
 
@@ -126,12 +126,12 @@ turn_counted : (number : ℕ) (e : Entry) (s t : NodeState) → IsKept s → IsK
 turn_counted number e s t k l b c a =
     let climbs : Climbs 3 s.manager.plain (done_by e (node_in s)).next.manager = entry_climbs number e (node_in s) a.actor a.call in
     let C : Node → Type 0 = λ n. Climbs 3 s.manager.plain n.manager in
-    climbs_counted 3 s t b c.few (adds_long (actors.Handler number) calls.Turn e s t a) (subst C (sym (next_is (actors.Handler number) calls.Turn e s t k l a)) climbs) (three_more (kept_total t.own) (kept_total s.own) c.total)
+    climbs_counted 3 s t b (ap (λ (x : Spare). x.few) c.spare) (adds_long (actors.Handler number) calls.Turn e s t a) (subst C (sym (next_is (actors.Handler number) calls.Turn e s t k l a)) climbs) (three_more (kept_total t.own) (kept_total s.own) c.total)
   where
     three_more : (a b : ℕ) → a ≤ b → a + 3 ≤ b + 1024
     three_more a b le = omega (arith, le)
 
 pub turned_node : (number : ℕ) (s : NodeState) (r : Result Bool Want) (t : NodeState) → IsNode s → IsKept t → KeepsCounts s t → Turns number s r t → IsNode t
-turned_node number s (Ok true) t n l c h = record { kept = l; counted = turn_counted number h.entry s t n.kept l n.counted c h.adds; risen = risen_more (actors.Handler number) calls.Turn h.entry s t n.risen h.adds }
+turned_node number s (Ok true) t n l c h = record { kept = l; counted = turn_counted number h.entry s t n.kept l n.counted c h.adds; risen = risen_more (actors.Handler number) calls.Turn h.entry s t n.risen h.adds; aside = aside_kept s t n.aside c }
 turned_node number s (Ok false) t n l c h = subst IsNode (sym h.same) n
-turned_node number s (Err e) t n l c h = record { kept = l; counted = counted_still s t n.counted c h; risen = risen_still s t n.risen h }
+turned_node number s (Err e) t n l c h = record { kept = l; counted = counted_still s t n.counted c h; risen = risen_still s t n.risen h; aside = aside_kept s t n.aside c }

@@ -21,7 +21,7 @@ use Rattle.mq_spec_node.specs.Words.{CanCome, Deed, Done, Handler, Node, Own, Te
 use Rattle.mq_core.specs.Values.{CoreValue}
 use Rattle.mq_events.specs.declared.outcome.Outcome.{Outcome}
 use Rattle.mq_events.specs.States.{NodeState, IsKept, IsLow, IsServed, entry_of, finished, forgotten_if, node_in, value_of}
-use Rattle.mq_events.specs.Counts.{KeepsCounts, kept_total}
+use Rattle.mq_events.specs.Counts.{KeepsCounts, kept_in, waiting_in}
 use Rattle.mq_events.specs.Disks.{RoseBy}
 use Rattle.mq_events.specs.Events.{Adds, Stays}
 use Rattle.mq_events.proofs.ReplayLaws.{replayed_more, with_more}
@@ -226,11 +226,11 @@ both_two : (a b : Bool) → (a && b) ≡ true → b ≡ true
 both_two true b e = e
 both_two false b e = absurd cc
 
-pub may_few : (s : NodeState) (number : ℕ) (r : Bool) → r ≡ (s.few && (count_by (is_number number) s.own.handlers == 1)) → r ≡ true → s.few ≡ true
-may_few s number r e t = both_one s.few (count_by (is_number number) s.own.handlers == 1) (sym e ∙ t)
+pub may_few : (s : NodeState) (number : ℕ) (r : Bool) → r ≡ (s.spare.few && (count_by (is_number number) s.own.handlers == 1)) → r ≡ true → s.spare.few ≡ true
+may_few s number r e t = both_one s.spare.few (count_by (is_number number) s.own.handlers == 1) (sym e ∙ t)
 
-pub may_one : (s : NodeState) (number : ℕ) (r : Bool) → r ≡ (s.few && (count_by (is_number number) s.own.handlers == 1)) → r ≡ true → count_by (is_number number) s.own.handlers ≡ 1
-may_one s number r e t = eq_is (count_by (is_number number) s.own.handlers) 1 (both_two s.few (count_by (is_number number) s.own.handlers == 1) (sym e ∙ t))
+pub may_one : (s : NodeState) (number : ℕ) (r : Bool) → r ≡ (s.spare.few && (count_by (is_number number) s.own.handlers == 1)) → r ≡ true → count_by (is_number number) s.own.handlers ≡ 1
+may_one s number r e t = eq_is (count_by (is_number number) s.own.handlers) 1 (both_two s.spare.few (count_by (is_number number) s.own.handlers == 1) (sym e ∙ t))
 
 pub idles : (number : ℕ) (s : NodeState) → Finds number (node_in s) None → Turns number s (Ok false) s
 idles number s e = record { same = refl; deed = e }
@@ -239,7 +239,7 @@ pub same_still : (number : ℕ) (s : NodeState) (x : Want) → Turns number s (E
 same_still number s x = record { same = refl; marks = refl; faults = omega arith }
 
 pub same_counts : (s : NodeState) → KeepsCounts s s
-same_counts s = record { few = refl; total = omega arith }
+same_counts s = record { spare = refl; total = omega arith; waits = omega arith }
 
 pub idle_none : (number : ℕ) (n : Node) → Finds number n None → true ≡ is_none (turn_of number n)
 idle_none number n e = sym (ap is_none e)
@@ -402,18 +402,21 @@ module _ (number : ℕ) (s r : NodeState) (d : DueTurn) (e : Roomed s r) (found 
         subst (λ (y : NodeState). Stays s y) (sym (wanted_is x u)) (record { same = ap (λ (p : Plain). record (value_of s) { node = node_of p s.own }) it.plain; marks = refl; faults = it.faults })
 
     -- what bounds counters
-    ends_left : (choice : Choice) (delta : List Did) (own : Own) → kept_total (forgotten_if choice delta own) ≡ kept_total own
+    ends_left : (choice : Choice) (delta : List Did) (own : Own) → (forgotten_if choice delta own).ends ≡ own.ends
     ends_left Runs delta own = refl
     ends_left NoMemory delta own = refl
     ends_left (Stopped by part left) delta own = refl
 
-    counts_at : (f : NodeState) → f.few ≡ s.few → kept_total f.own ≡ kept_total s.own → KeepsCounts s f
-    counts_at f few total = record { few = few; total = omega (arith, total) }
+    counts_at : (f : NodeState) → f.spare ≡ s.spare → f.own.ends ≡ s.own.ends → KeepsCounts s f
+    counts_at f spare ends =
+        let total = ap kept_in ends in
+        let waits = ap waiting_in ends in
+        record { spare = spare; total = omega (arith, total); waits = omega (arith, waits) }
 
     pub turned_counts : (f : NodeState) (o : Outcome) → TreatsAt d.letter d.at r.own.handlers r.manager (Ok o) a.own.handlers a.manager → f ≡ finished (actors.Handler number) calls.Turn o a → KeepsCounts s f
     turned_counts f o u w =
         let same = w ∙ ap (finished (actors.Handler number) calls.Turn o) (at_all u.next u.set) in
-        counts_at f (ap (λ (x : NodeState). x.few) same) (ap (λ (x : NodeState). kept_total x.own) same ∙ ends_left o.choice o.delta (at_place d.at u.next s.own))
+        counts_at f (ap (λ (x : NodeState). x.spare) same) (ap (λ (x : NodeState). x.own.ends) same ∙ ends_left o.choice o.delta (at_place d.at u.next s.own))
 
     pub wanted_counts : (x : Want) → TreatsAt d.letter d.at r.own.handlers r.manager (Err x) a.own.handlers a.manager → KeepsCounts s a
-    wanted_counts x u = counts_at a (ap (λ (y : NodeState). y.few) (wanted_is x u)) (ap (λ (y : NodeState). kept_total y.own) (wanted_is x u))
+    wanted_counts x u = counts_at a (ap (λ (y : NodeState). y.spare) (wanted_is x u)) (ap (λ (y : NodeState). y.own.ends) (wanted_is x u))

@@ -72,7 +72,7 @@ fn manager_of<D: Disk>(parts: &NodeParts<D>) -> &Manager<D>
 
 /// Whether a turn of the handler of a number can be told: its manager may count, and no other handler has the number.
 fn may_treat<D: Disk>(parts: &NodeParts<D>, number: u16) -> bool
-    ensures { result ≡ (parts.now.few && (count_by (is_number number) parts.now.own.handlers == 1)) }
+    ensures { result ≡ (parts.now.spare.few && (count_by (is_number number) parts.now.own.handlers == 1)) }
 {
     parts.few && is_alone(handlers_of(parts), number)
 }
@@ -131,7 +131,7 @@ fn take_turn<D: Disk>(
     requires node { IsNode parts.old }
     requires served { IsServed parts.old }
     requires may { MayAct parts.old }
-    requires few { parts.old.few ≡ true }
+    requires few { parts.old.spare.few ≡ true }
     requires found { FindsOne due.now number (node_in parts.old) }
     requires alone { count_by (is_number number) parts.old.own.handlers ≡ 1 }
     ensures kept { IsKept parts.new }

@@ -39,6 +39,12 @@ abbrev pub Does : {T : Type 0} → (ℕ → Entry → Type 0) → Result T Stop 
 Does P (Ok x) c d = Did P c d × Ready d.net
 Does P (Err stop) c d = Broke P stop c d
 
+-- No want of memory.
+abbrev pub NeverWants : {T : Type 0} → Result T Stop → Type 0
+NeverWants (Ok x) = Unit {0}
+NeverWants (Err stops.NoMemory) = ⊥
+NeverWants (Err (stops.Spent m)) = Unit {0}
+
 -- One that says something of the entry.
 abbrev pub Says : {T : Type 0} → (ℕ → Entry → Type 0) → (T → Entry → Type 0) → Result T Stop → Course → Course → Type 0
 Says P Q (Ok x) c d = Did (λ m e. P m e × Q x e) c d × Ready d.net

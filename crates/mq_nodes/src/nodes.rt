@@ -46,7 +46,7 @@ pub trait Nodes {
     ghost use Rattle.mq_spec_network.specs.Steps.{Is, is_cut};
     ghost use Rattle.mq_spec_network.specs.Lawful.{handles_idle};
     ghost use Rattle.mq_nodes.specs.Course.{Course, Ready, noted};
-    ghost use Rattle.mq_nodes.specs.Told.{Does, HandlerTold, LineTold, Part, Says, TurnTold, later};
+    ghost use Rattle.mq_nodes.specs.Told.{Does, HandlerTold, LineTold, NeverWants, Part, Says, TurnTold, later};
     ghost use Rattle.mq_nodes.specs.Pumps.{AllStill, TurnIn};
     ghost use Rattle.mq_nodes.specs.Carried.{AllCarried};
     ghost use Rattle.mq_sc_parse.specs.declared.command.Command.{Command};
@@ -103,11 +103,13 @@ pub trait Nodes {
         requires there { cable < length (course self.old).net.scenario.cables }
         ensures { TurnIn Receives cable result (course self.old) (course self.new) };
 
-    /// A timeout comes to the sender of a cable, if it waits for an answer: whether it did.
+    /// A timeout comes to the sender of a cable, if it waits for an answer: whether it did. It takes no memory, and never answers
+    /// want of it.
     fn timeout(&mut self, cable: u16) -> Result<bool, Stop>
         requires ready { Ready (course self.old).net }
         requires there { cable < length (course self.old).net.scenario.cables }
-        ensures { TurnIn TimesOut cable result (course self.old) (course self.new) };
+        ensures told { TurnIn TimesOut cable result (course self.old) (course self.new) }
+        ensures room { NeverWants result };
 
     /// Whether nothing can change. That is so where no turn and no timeout would change a thing.
     fn is_idle(&self) -> bool

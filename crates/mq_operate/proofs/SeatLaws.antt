@@ -14,6 +14,7 @@ use Rattle.mq_spec_node.specs.Terms.{OpRefusal, Part}
 use Rattle.mq_spec_node.specs.Words.{Deed, Own, ReceiverEnd, is_bad_number, limits_here, operated, parts_of, receiver_end, refused, refused_or, reset_end, start_end, stop_end, with_end}
 use Rattle.mq_spec_node.specs.Node.ChannelEnd.{Receives}
 use Rattle.mq_events.specs.States.{NodeState, node_in}
+use Rattle.mq_events.proofs.KeepLaws.{waits_less}
 use Rattle.mq_turns.specs.Turns.{Made, MadeOr, own_by}
 use Rattle.mq_turns.proofs.PartLaws.{none_made}
 use Rattle.mq_turns.proofs.QuietLaws.{BringNone, harden_brings}
@@ -44,6 +45,7 @@ seat_so parts e seat machine empties w s b a k brings r m is z =
       received = refl;
       brings = brings;
       total = seat_total e machine empties s.own k.there;
+      waits = waits_less (Receives (behind e machine empties)) s.own refl;
       made = m;
       state = refl;
     })) r

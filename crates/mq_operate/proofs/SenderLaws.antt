@@ -17,7 +17,7 @@ use Rattle.mq_manager.specs.Facts.{IsWell}
 use Rattle.mq_spec_manager.specs.Agents.{CanHarden, harden, unit_of}
 use Rattle.mq_spec_node.specs.Terms.{Did, Op, OpRefusal, Part, Plain, is_up}
 use Rattle.mq_spec_node.specs.Words.{Tried, Deed, Handler, Node, Own, SenderEnd, forgotten_rows, operate, operate_up, operated, parts_of, refused, refused_or, resolve_doubt, resolve_end, sender_named, still_tried}
-use Rattle.mq_events.specs.Counts.{kept_total}
+use Rattle.mq_events.specs.Counts.{kept_total, waiting_total}
 use Rattle.mq_events.specs.States.{NodeState, node_in}
 use Rattle.mq_turns.specs.Turns.{IsAsWas, MadeOr, own_by}
 use Rattle.mq_turns.proofs.AgentLaws.{as_was}
@@ -50,6 +50,7 @@ refused_from reason refusal choice delta s a r c d was is =
       received = refl;
       brings = tt;
       total = le_self (kept_total s.own);
+      waits = le_self (waiting_total s.own);
       made = record { made = tt; can = λ lt. lt; told = refl; plain = was.plain; later = was.later; rose = tt };
       state = is ∙ ap (λ (o : Own). record s { manager = a.manager; own = o }) (sym (none_forgotten s.own));
     } in
@@ -168,7 +169,7 @@ noted parts w s b a brings r m is z =
     let A : NodeState → Type 0 = λ x. IsWorked (operated parts s.own) None w.told.choice w.told.delta s x in
     let F : NodeState → NodeState = λ x. record x { own = own_by w.told.choice w.told.delta x.own x.own } in
     worked_from (operated parts s.own) w.refusal w.told.choice w.told.delta s a
-    (subst A (sym (z ∙ ap F is)) (record { reply = refl; pushed = refl; received = refl; brings = brings; total = le_self (kept_total s.own); made = m; state = refl })) r
+    (subst A (sym (z ∙ ap F is)) (record { reply = refl; pushed = refl; received = refl; brings = brings; total = le_self (kept_total s.own); waits = le_self (waiting_total s.own); made = m; state = refl })) r
 
 pub unnoted : (s b : NodeState) → IsAsWas s.manager b.manager → b ≡ record s { manager = b.manager } → IsUnworked s b
 unnoted s b was is = record { was = was; state = is }

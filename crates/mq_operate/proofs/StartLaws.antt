@@ -29,6 +29,7 @@ use Rattle.mq_core.specs.Values.{CoreValue, manager_of}
 use Rattle.mq_events.specs.Counts.{kept_in}
 use Rattle.mq_events.specs.declared.outcome.Told.{Told}
 use Rattle.mq_events.specs.States.{NodeState, node_in}
+use Rattle.mq_events.proofs.KeepLaws.{waits_less}
 use Rattle.mq_turns.specs.Turns.{IsAsWas, IsBehind, Made, MadeOr, left_parts, own_by}
 use Rattle.mq_turns.proofs.PartLaws.{ran_made}
 use Rattle.mq_turns.proofs.AgentLaws.{nothing_made}
@@ -130,6 +131,7 @@ started_by (Do reply parts) e last w s b a brings k is st z =
       received = refl;
       brings = brings;
       total = sends_less (record e { machine = senders.started (senders.kept_of (sender_data e.channel s.manager.plain)) (limits_here e.channel (node_in s)) }) s.own.ends;
+      waits = waits_less (Sends (record e { machine = senders.started (senders.kept_of (sender_data e.channel s.manager.plain)) (limits_here e.channel (node_in s)) })) s.own refl;
       made = k.1;
       state = refl;
     })) k.0
@@ -177,6 +179,7 @@ stopped_so e last w s b c a is r m bs l cs z =
       received = refl;
       brings = some_bring (parts_of (release_batch e.channel s.manager.plain)) (parts_of (leave e.channel s.manager.plain)) (release_brings e.channel (batch_of e.channel s.manager.plain.channels.batches)) (leave_brings e.channel s.manager.plain);
       total = sends_less after s.own.ends;
+      waits = waits_less (Sends after) s.own refl;
       made = made_left (parts_of (release_batch e.channel s.manager.plain)) e.channel false w.told.choice w.told.delta s.manager b.manager c.manager m l;
       state = refl;
     })) r

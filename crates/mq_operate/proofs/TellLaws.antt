@@ -10,12 +10,12 @@ use Rattle.mq_history.specs.declared.calls.Reply.TheVariants as replies
 use Rattle.mq_law_counts.specs.Counts.{Climbs}
 use Rattle.mq_spec_node.specs.Terms.{Acted, Actor, Call, Did, Entry, Op, OpRefusal, Part, Plain, Possible, Reply}
 use Rattle.mq_spec_node.specs.Words.{CanCome, Deed, Monitor, Node, Own, Tells, answer_of, done, done_by, node_of, operate, remembered}
-use Rattle.mq_events.specs.Counts.{IsNode, kept_total}
+use Rattle.mq_events.specs.Counts.{IsNode, kept_total, waiting_total}
 use Rattle.mq_events.specs.Events.{ActsAs, MayAct, Stays}
 use Rattle.mq_events.specs.States.{IsKept, IsServed, NodeState, entry_of, node_in, told, value_of}
 use Rattle.mq_events.specs.Disks.{RoseBy, RoseWhere}
 use Rattle.mq_events.proofs.CallLaws.{rose_by, silent}
-use Rattle.mq_events.proofs.CountLaws.{climbs_counted, long_more}
+use Rattle.mq_events.proofs.CountLaws.{climbs_counted, less_aside, long_more}
 use Rattle.mq_events.proofs.EntryLaws.{entry_kept}
 use Rattle.mq_events.proofs.RiseLaws.{risen_later, risen_with}
 use Rattle.mq_turns.specs.Turns.{IsMade, delta_by, own_by, plain_by}
@@ -110,6 +110,11 @@ total_by (Stopped by n left) delta behind before le = le_self (kept_total before
 climbs_on : (a b : ℕ) → a ≤ b → a + 0 ≤ b + 1024
 climbs_on a b le = omega (arith, le)
 
+waits_by : (choice : Choice) (delta : List Did) (behind before : Own) → waiting_total behind ≤ waiting_total before → waiting_total (own_by choice delta behind before) ≤ waiting_total before
+waits_by Runs delta behind before le = le
+waits_by NoMemory delta behind before le = le_self (waiting_total before)
+waits_by (Stopped by n left) delta behind before le = le_self (waiting_total before)
+
 answer_is : (op : Op) (refusal : Option OpRefusal) (choice : Choice) → answer_of (call_of op) (reply_by choice refusal) ≡ replies.Acted (answer_by choice refusal)
 answer_is op refusal Runs = refl
 answer_is op refusal NoMemory = refl
@@ -163,6 +168,7 @@ module _ (s a t : NodeState) (actor : Actor) (op : Op) (w : Worked) (k : IsWorke
         (subst (λ (p : Plain). Climbs 0 s.manager.plain p) (sym k.made.plain) (climbs_by d.parts choice s.manager.plain k.made.made k.brings))
         (climbs_on (kept_total own) (kept_total s.own) (total_by choice w.told.delta d.own s.own k.total));
     risen = risen_with s.history.entries it s.manager.faults a.manager.faults n.risen k.made.later (answer_rose w.refusal choice s.manager.faults a.manager.faults k.made.rose);
+    aside = less_aside s behind n.aside refl (waits_by choice w.told.delta d.own s.own k.waits);
   })
 
   pub told_did : (b : Acted) → b ≡ answer_by choice w.refusal → ActsAs actor (call_of op) s (Ok b) t
@@ -179,12 +185,12 @@ unworked_stays s a u =
 pub unworked_node : (s a : NodeState) → IsUnworked s a → IsNode s → IsNode a
 unworked_node s a u n =
     let F : Plain → Type 0 = λ p. IsNode (record s { manager = record a.manager { plain = p } }) in
-    let k : F s.manager.plain = record { kept = n.kept; counted = n.counted; risen = risen_later s.history.entries s.manager.faults a.manager.faults n.risen u.was.later } in
+    let k : F s.manager.plain = record { kept = n.kept; counted = n.counted; risen = risen_later s.history.entries s.manager.faults a.manager.faults n.risen u.was.later; aside = n.aside } in
     subst IsNode (sym u.state) (subst F (sym u.was.plain) k)
 
 -- Room was taken before.
 pub roomed_node : (s r : NodeState) → r ≡ record s { room = r.room } → IsNode s → IsNode r
-roomed_node s r e n = let k : IsNode (record s { room = r.room }) = record { kept = n.kept; counted = n.counted; risen = n.risen } in subst IsNode (sym e) k
+roomed_node s r e n = let k : IsNode (record s { room = r.room }) = record { kept = n.kept; counted = n.counted; risen = n.risen; aside = n.aside } in subst IsNode (sym e) k
 
 pub roomed_did : (s r t : NodeState) (actor : Actor) (call : Call) (result : Result Acted Want) → r ≡ record s { room = r.room } → ActsAs actor call r result t → ActsAs actor call s result t
 roomed_did s r t actor call (Ok b) e h =

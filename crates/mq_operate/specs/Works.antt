@@ -14,7 +14,7 @@ use Rattle.mq_spec_node.specs.Terms.{Acted, Call, Did, Op, OpRefusal, Part, Repl
 use Rattle.mq_spec_node.specs.Words.{Deed, op_stopped}
 use Rattle.mq_events.specs.declared.outcome.Outcome.{Outcome}
 use Rattle.mq_events.specs.States.{NodeState}
-use Rattle.mq_events.specs.Counts.{kept_total}
+use Rattle.mq_events.specs.Counts.{kept_total, waiting_total}
 use Rattle.mq_turns.specs.Turns.{IsAsWas, Made, own_by}
 use Rattle.mq_operate.specs.declared.working.Worked.{Worked}
 
@@ -39,13 +39,14 @@ answer_by (Stopped by n left) refusal = acted.Op (op_stopped by)
 abbrev pub outcome_by : Worked → Outcome
 outcome_by w = record { choice = w.told.choice; reply = reply_by w.told.choice w.refusal; delta = w.told.delta }
 
--- Its deed came to this: it raises no counter, and no receiver keeps more.
+-- Its deed came to this: it raises no counter, no receiver keeps more, and no more senders wait for an answer.
 pub record IsWorked (d : Deed) (refusal : Option OpRefusal) (choice : Choice) (delta : List Did) (s a : NodeState) : Type 0 where
   pub reply : d.reply ≡ replies.Acted (acted_by refusal)
   pub pushed : d.pushed ≡ None
   pub received : d.received ≡ []
   pub brings : AllByRecursion (λ (x : Part). all_growth x.changes ≤ 0) d.parts
   pub total : kept_total d.own ≤ kept_total s.own
+  pub waits : waiting_total d.own ≤ waiting_total s.own
   pub made : Made d.parts choice delta s.manager a.manager
   pub state : a ≡ record s { manager = a.manager; own = own_by choice delta d.own s.own }
 

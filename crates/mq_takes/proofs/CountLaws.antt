@@ -1,5 +1,5 @@
 -- A node's type is kept by its receivers' turns: what a commit places was counted when it was kept.
-use Rattle.std.proofs.Common.{◌≡◌, ℕ, zero, suc, ◌+◌, ◌≤◌, refl, sym, subst, List, [], ◌∷◌, ◌++◌, length, Bool, true, false, arith}
+use Rattle.std.proofs.Common.{◌≡◌, ℕ, zero, suc, ◌+◌, ◌≤◌, refl, sym, ap, subst, List, [], ◌∷◌, ◌++◌, length, Bool, true, false, arith}
 use Rattle.std.specs.Prelude.{Option, Some, None, Result, Ok, Err, if◌then◌else◌, ◌==◌}
 use Rattle.mq_base.specs.declared.want.NoMemory.{NoMemory as Want}
 use Rattle.mq_cable.specs.declared.item.Item.{Item}
@@ -31,10 +31,11 @@ use Rattle.mq_spec_node.specs.Terms.{Actor, Call, Down, Entry, Message, Plain, R
 use Rattle.mq_spec_node.specs.Words.{ChannelEnd, Deed, Done, Node, Own, ReceiverEnd, Surroundings, Tells, Follows, IsDeed, IsEvent, CanCome, after, as_receiver, bind_parts, cable_of, choice_event, close_parts, deed_of, done, done_by, end_in, event, is_receiver_defined, kept_kind, kept_seen, more_entries, opening_node, place_deed, receiver_deed_by, receiver_end, receiver_turn, set_end, stamp_after, turned, where_up, with_end}
 use Rattle.std.specs.Option.{option_map}
 use Rattle.mq_spec_node.specs.Node.ChannelEnd.{Receives, Sends}
-use Rattle.mq_events.specs.States.{IsKept, NodeState, node_in}
-use Rattle.mq_events.specs.Counts.{IsNode, kept_in, kept_total}
+use Rattle.mq_events.specs.States.{IsKept, NodeState, Spare, node_in}
+use Rattle.mq_events.specs.Counts.{IsNode, kept_in, kept_total, waiting_total}
 use Rattle.mq_events.specs.Events.{Adds}
-use Rattle.mq_events.proofs.CountLaws.{adds_long, climbs_counted, next_is}
+use Rattle.mq_events.proofs.CountLaws.{adds_long, climbs_counted, less_aside, next_is}
+use Rattle.mq_events.proofs.KeepLaws.{waits_less}
 use Rattle.mq_events.proofs.RiseLaws.{risen_more}
 use Rattle.mq_turns.specs.declared.telling.Turn.TheVariants as turns
 use Rattle.mq_turns.specs.declared.telling.Turn.{Turn}
@@ -74,6 +75,7 @@ record Counts (d : Deed) (n : Node) : Type 0 where
   all : Climbs k n.manager (do_all d.parts n.manager)
   stopped : (part left : ℕ) → IsWrite part d.parts → Climbs 0 n.manager (stopped_at part d.parts left n.manager)
   own : kept_total d.own + k ≤ kept_total n.own + 1024
+  waits : waiting_total d.own ≤ waiting_total n.own
 
 abbrev Counted : Option Deed → Node → Type 0
 Counted None n = Unit {0}
@@ -82,20 +84,25 @@ Counted (Some d) n = Counts d n
 one_fits : (a b e x : ℕ) → a + e ≡ b + x → x ≤ e + 1 → a + 0 ≤ b + 1024
 one_fits a b e x is le = omega (arith, is, le)
 
+same_less : (a : ℕ) → a ≤ a
+same_less a = omega arith
+
 same_fits : (a : ℕ) → a + 0 ≤ a + 1024
 same_fits a = omega arith
 
 all_fit : (a b e : ℕ) → a + e ≡ b + 0 → a + e ≤ b + 1024
 all_fit a b e is = omega (arith, is)
 
-quiet_counts : (d : Deed) (n : Node) → BringNone d.parts → kept_total d.own + 0 ≤ kept_total n.own + 1024 → Counts d n
-quiet_counts d n b le = record { k = 0; all = (none_climb d.parts n.manager b).all; stopped = λ part left w. (none_climb d.parts n.manager b).stopped part left; own = le }
+quiet_counts : (d : Deed) (n : Node) → BringNone d.parts → kept_total d.own + 0 ≤ kept_total n.own + 1024 → waiting_total d.own ≤ waiting_total n.own → Counts d n
+quiet_counts d n b le waits = record { k = 0; all = (none_climb d.parts n.manager b).all; stopped = λ part left w. (none_climb d.parts n.manager b).stopped part left; own = le; waits = waits }
 
 -- one end after its turn, which keeps one message more at most
 end_counts : (e new : ReceiverEnd) (d : Deed) (n : Node) → receiver_end new.cable n.own ≡ Some e → d.own ≡ with_end (Receives new) n.own → length new.kept ≤ length e.kept + 1 → BringNone d.parts → Counts d n
 end_counts e new d n there is le b =
     let F : Own → Type 0 = λ x. kept_total x + 0 ≤ kept_total n.own + 1024 in
+    let W : Own → Type 0 = λ x. waiting_total x ≤ waiting_total n.own in
     quiet_counts d n b (subst F (sym is) (one_fits (kept_total (with_end (Receives new) n.own)) (kept_total n.own) (length e.kept) (length new.kept) (kept_place n.own e new there) le))
+    (subst W (sym is) (waits_less (Receives new) n.own refl))
 
 one_more : (xs : List Message) (m : Message) → length (xs ++ m ∷ []) ≤ length xs + 1
 one_more [] m = omega arith
@@ -157,6 +164,7 @@ landed_counts e unit seen last l n there is false =
       all = (commit_climbs e.channel unit last (length e.kept) l n.manager h).all;
       stopped = λ part left w. part_stopped (received_part e.channel unit last l n.manager) n.manager part left w;
       own = all_fit (kept_total (with_end (Receives new) n.own)) (kept_total n.own) (length e.kept) (kept_place n.own e new there);
+      waits = waits_less (Receives new) n.own refl;
     }
 
 placed_counts : (e : ReceiverEnd) (unit : Luw) (seen : Seen) (last : ℕ) (n : Node) (r : Result Landed Reason) → receiver_end e.cable n.own ≡ Some e → landed e.channel e.kept n.manager ≡ r → Counts (place_deed e unit seen (receive_landed e.channel unit last r n.manager) n) n
@@ -165,7 +173,7 @@ placed_counts e unit seen last n (Ok l) there is = landed_counts e unit seen las
 
 line_counts : (stamp : ℕ) (e : ReceiverEnd) (seen : Seen) (d : ReceiverDoes) (n : Node) → receiver_end e.cable n.own ≡ Some e → Counted (receiver_deed_by stamp e seen d n) n
 line_counts stamp e seen does.Still n there = tt
-line_counts stamp e seen does.Ignore n there = quiet_counts (turned [] None n.own) n tt (same_fits (kept_total n.own))
+line_counts stamp e seen does.Ignore n there = quiet_counts (turned [] None n.own) n tt (same_fits (kept_total n.own)) (same_less (waiting_total n.own))
 line_counts stamp e seen does.PushOwed n there =
     let new : ReceiverEnd = behind e does.PushOwed seen outs.Done e.kept in
     end_counts e new (turned [] (option_map (owed_frame stamp) e.machine.owes) (with_end (Receives new) n.own)) n there refl (le_more (length e.kept)) tt
@@ -201,17 +209,18 @@ record Grown (o : Done) (n : Node) : Type 0 where
   k : ℕ
   climbs : Climbs k n.manager o.next.manager
   own : kept_total o.next.own + k ≤ kept_total n.own + 1024
+  waits : waiting_total o.next.own ≤ waiting_total n.own
 
 still_grown : (o : Done) (n : Node) → o.next ≡ n → Grown o n
 still_grown o n is =
-    let G : Node → Type 0 = λ x. Climbs 0 n.manager x.manager × (kept_total x.own + 0 ≤ kept_total n.own + 1024) in
-    let g : G o.next = subst G (sym is) (stay 0 n.manager, same_fits (kept_total n.own)) in
-    record { k = 0; climbs = g.0; own = g.1 }
+    let G : Node → Type 0 = λ x. Climbs 0 n.manager x.manager × (kept_total x.own + 0 ≤ kept_total n.own + 1024) × (waiting_total x.own ≤ waiting_total n.own) in
+    let g : G o.next = subst G (sym is) (stay 0 n.manager, same_fits (kept_total n.own), same_less (waiting_total n.own)) in
+    record { k = 0; climbs = g.0; own = g.1; waits = g.2 }
 
 done_grown : (d : Deed) (choice : Choice) (n : Node) → CanCome d choice n → Counts d n → Grown (done d choice n) n
-done_grown d Runs n can c = record { k = c.k; climbs = c.all; own = c.own }
+done_grown d Runs n can c = record { k = c.k; climbs = c.all; own = c.own; waits = c.waits }
 done_grown d NoMemory n can c = still_grown (done d NoMemory n) n refl
-done_grown d (Stopped by part left) n can c = record { k = 0; climbs = c.stopped part left can.0; own = same_fits (kept_total n.own) }
+done_grown d (Stopped by part left) n can c = record { k = 0; climbs = c.stopped part left can.0; own = same_fits (kept_total n.own); waits = same_less (waiting_total n.own) }
 
 chosen_grown : (chance : Chance) (d : Option Deed) (n : Node) → IsDeed d chance n → Counted d n → Grown (choice_event chance d n) n
 chosen_grown chance None n can c = absurd can
@@ -222,7 +231,7 @@ chosen_grown (chances.Foreign image length left) (Some d) n can c = absurd can
 turn_grown : (stamp cable : ℕ) (chance : Chance) (seen : Seen) (n : Node) → IsDeed (deed_of stamp (actors.Receiver cable) calls.Turn seen n) chance n → Grown (event stamp (actors.Receiver cable) calls.Turn chance seen n) n
 turn_grown stamp cable chance seen n can =
     let g = chosen_grown chance (deed_of stamp (actors.Receiver cable) calls.Turn seen n) n can (turn_counts stamp cable seen n) in
-    record { k = g.k; climbs = g.climbs; own = g.own }
+    record { k = g.k; climbs = g.climbs; own = g.own; waits = g.waits }
 
 -- The last entry of a history that replays tells its event.
 last_tells : (n : Node) (last : ℕ) (es : List Entry) (e : Entry) → Follows n last (es ++ e ∷ []) → Tells (after n es) (stamp_after last es) e
@@ -237,8 +246,8 @@ entry_tells who what e s t k l a =
     subst (λ (n : Node). Tells n s.stamp e) (sym k.node) (subst (λ (m : ℕ). Tells (after (opening_node s.given s.history) s.history.entries) m e) (sym k.stamp) h)
 
 -- So behind the entry of a receiver's turn, and where none was added.
-pub receiver_counted : (cable : ℕ) (e : Entry) (s t : NodeState) → IsNode s → IsKept t → t.few ≡ s.few → Adds (actors.Receiver cable) calls.Turn e s t → IsNode t
-receiver_counted cable e s t n k few a =
+pub receiver_counted : (cable : ℕ) (e : Entry) (s t : NodeState) → IsNode s → IsKept t → t.spare ≡ s.spare → Adds (actors.Receiver cable) calls.Turn e s t → IsNode t
+receiver_counted cable e s t n k spare a =
     let n0 : Node = node_in s in
     let tells : Tells n0 s.stamp e = entry_tells (actors.Receiver cable) calls.Turn e s t n.kept k a in
     let X : Actor → Type 0 = λ x. IsEvent e.stamp x e.call e.chance e.effect.popped n0 in
@@ -250,9 +259,15 @@ receiver_counted cable e s t n k few a =
     let next : (done_by e n0).next ≡ node_in t = sym (next_is (actors.Receiver cable) calls.Turn e s t n.kept k a) in
     let M : Node → Type 0 = λ x. Climbs g.k s.manager.plain x.manager in
     let K : Node → Type 0 = λ x. kept_total x.own + g.k ≤ kept_total s.own + 1024 in
-    record { kept = k; counted = climbs_counted g.k s t n.counted few (adds_long (actors.Receiver cable) calls.Turn e s t a) (subst M next g.climbs) (subst K next g.own); risen = risen_more (actors.Receiver cable) calls.Turn e s t n.risen a }
+    let W : Node → Type 0 = λ x. waiting_total x.own ≤ waiting_total s.own in
+    record {
+      kept = k;
+      counted = climbs_counted g.k s t n.counted (ap (λ (x : Spare). x.few) spare) (adds_long (actors.Receiver cable) calls.Turn e s t a) (subst M next g.climbs) (subst K next g.own);
+      risen = risen_more (actors.Receiver cable) calls.Turn e s t n.risen a;
+      aside = less_aside s t n.aside spare (subst W next g.waits);
+    }
 
 pub taken_node : (s t : NodeState) (cable : ℕ) (reads writes : List Item → Type 0) (empty full : Type 0) (o n : Offering) (result : Result Turn Want) → IsNode s → TakesOne cable reads writes empty full o n s result t → IsNode t
-taken_node s t cable reads writes empty full o n (Ok turns.Changed) node h = receiver_counted cable h.turn.entry s t node h.kept h.few h.turn.adds
-taken_node s t cable reads writes empty full o n (Ok turns.Still) node h = stays_counted s t node h.kept h.few h.turn.0.stays
-taken_node s t cable reads writes empty full o n (Err e) node h = stays_counted s t node h.kept h.few h.turn.stays
+taken_node s t cable reads writes empty full o n (Ok turns.Changed) node h = receiver_counted cable h.turn.entry s t node h.kept h.spare h.turn.adds
+taken_node s t cable reads writes empty full o n (Ok turns.Still) node h = stays_counted s t node h.kept h.spare h.turn.0.stays
+taken_node s t cable reads writes empty full o n (Err e) node h = stays_counted s t node h.kept h.spare h.turn.stays

@@ -79,7 +79,7 @@ module _ (cable : ℕ) (reads writes : List Item → Type 0) (empty full : Type 
       let T : NodeState → Type 0 = λ x. TakesOne cable reads writes empty full o o s (Ok turns.Still) x in
       subst T (sym e) (record {
         kept = kept;
-        few = refl;
+        spare = refl;
         turn = (record { stays = same_stays s; read = read; offers = record { same = refl; written = written } }, Idles (Rests h) (h items.Nothing));
       })
 
@@ -89,12 +89,12 @@ module _ (cable : ℕ) (reads writes : List Item → Type 0) (empty full : Type 
       let T : NodeState → Type 0 = λ y. TakesOne cable reads writes empty full o o s (Err x) y in
       subst T (sym e) (record {
         kept = kept;
-        few = refl;
+        spare = refl;
         turn = record { stays = record { same = refl; marks = refl; faults = le_self s.manager.faults }; read = read; offers = record { same = refl; written = written } };
       })
 
   pub wants_still : (s : NodeState) (x : Want) (o : Offering) → IsKept s → reads [] → writes [] → TakesOne cable reads writes empty full o o s (Err x) s
-  wants_still s x o kept read written = record { kept = kept; few = refl; turn = record { stays = same_stays s; read = read; offers = record { same = refl; written = written } } }
+  wants_still s x o kept read written = record { kept = kept; spare = refl; turn = record { stays = same_stays s; read = read; offers = record { same = refl; written = written } } }
 
   pub turn_of : (before s t : NodeState) (o n : Offering) (result : Result Turn Want) → before ≡ s → TakesOne cable reads writes empty full o n before result t → EndTurn (actors.Receiver cable) reads writes empty full o n s result t
   turn_of before s t o n result is h =
@@ -111,17 +111,17 @@ module _ (cable : ℕ) (reads writes : List Item → Type 0) (empty full : Type 
   roomed : (s t : NodeState) (room : ℕ) (o n : Offering) (result : Result Turn Want) → TakesOne cable reads writes empty full o n (record s { room = room }) result t → TakesOne cable reads writes empty full o n s result t
   roomed s t room o n (Ok turns.Changed) h = record {
     kept = h.kept;
-    few = h.few;
+    spare = h.spare;
     turn = record { entry = h.turn.entry; adds = room_adds s room t h.turn.entry h.turn.adds; popped = h.turn.popped; offered = h.turn.offered };
   }
   roomed s t room o n (Ok turns.Still) h = record {
     kept = h.kept;
-    few = h.few;
+    spare = h.spare;
     turn = (record { stays = room_stays s room t h.turn.0.stays; read = h.turn.0.read; offers = h.turn.0.offers }, h.turn.1);
   }
   roomed s t room o n (Err e) h = record {
     kept = h.kept;
-    few = h.few;
+    spare = h.spare;
     turn = record { stays = room_stays s room t h.turn.stays; read = h.turn.read; offers = h.turn.offers };
   }
 

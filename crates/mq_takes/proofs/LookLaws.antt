@@ -104,7 +104,7 @@ still_so p t e seen reads writes full o may next at read written =
     let here : does.Still ≡ receiver_next e.machine items.Nothing (is_receiver_defined e.channel p.manager.plain.definitions) = subst (λ (x : Seen). does.Still ≡ receiver_next e.machine x (is_receiver_defined e.channel p.manager.plain.definitions)) none next in
     subst T (sym at) (record {
       kept = may.kept;
-      few = refl;
+      spare = refl;
       turn = (
         record { stays = record { same = refl; marks = refl; faults = le_self p.manager.faults }; read = read; offers = record { same = refl; written = written } },
         Idles none (turn_is (p.stamp + 1) e.cable e does.Still items.Nothing (node_in (whole e p)) may.up may.there here),
@@ -119,7 +119,7 @@ pub turn_seen : (cable : ℕ) (reads writes rs ws : List Item → Type 0) (none 
     → (reads [] → none → IsUnseen empty (turn_deed (actors.Receiver cable) s)) → (full → fu) → ReceivesTurn cable reads writes none full o n s result t → TakesOne cable rs ws empty fu o n s result t
 turn_seen cable reads writes rs ws none full empty fu o n s t result r w k f h = record {
   kept = h.kept;
-  few = h.few;
+  spare = h.spare;
   turn = turn_widened reads writes rs ws none full (IsUnseen empty (turn_deed (actors.Receiver cable) s)) fu r w k f (actors.Receiver cable) o n (turn_deed (actors.Receiver cable) s items.Nothing) s result t h.turn;
 }
 
@@ -136,4 +136,4 @@ pub put_seen : (p t : NodeState) (e last : ReceiverEnd) (x : Want) (reads writes
     → TakesOne e.cable reads writes empty full o n (whole e p) (Err x) t
 put_seen p t e last x reads writes empty full o n may is at read offers =
     let z : ReceivesTurn e.cable reads writes (Unit {0}) full o n (whole e p) (Err x) t = put_so p t e last x reads writes (Unit {0}) full o n may is at read offers in
-    record { kept = z.kept; few = z.few; turn = z.turn }
+    record { kept = z.kept; spare = z.spare; turn = z.turn }

@@ -116,7 +116,7 @@ module _ (s p t : NodeState) (e last : ReceiverEnd) (parts : List Part) (receive
       let k = z s d before (receiver_turns e.cable) (told_is deed sees made) same may.kept may.served in
       record {
         kept = k.kept;
-        few = k.few;
+        spare = k.spare;
         turn = record { entry = turn_entry (actors.Receiver e.cable) calls.Turn choice delta w received; adds = k.adds; popped = popped; offered = record { same = refl; written = written } };
       }
 
@@ -157,7 +157,7 @@ pub put_so : (p t : NodeState) (e last : ReceiverEnd) (x : Want) (reads writes :
 put_so p t e last x reads writes none full o n may is k read offers =
     let at : t ≡ whole e p = k ∙ ap (λ (y : ReceiverEnd). whole y p) is in
     let T : NodeState → Type 0 = λ y. ReceivesTurn e.cable reads writes none full o n (whole e p) (Err x) y in
-    subst T (sym at) (record { kept = may.kept; few = refl; turn = record { stays = record { same = refl; marks = refl; faults = le_self p.manager.faults }; read = read; offers = offers } })
+    subst T (sym at) (record { kept = may.kept; spare = refl; turn = record { stays = record { same = refl; marks = refl; faults = le_self p.manager.faults }; read = read; offers = offers } })
   where
     le_self : (n : ℕ) → n ≤ n
     le_self n = omega arith
@@ -193,7 +193,7 @@ refused_so p t e owed f reads writes full o n may h is at read told =
     let T : NodeState → Type 0 = λ y. ReceivesTurn e.cable reads writes (Unit {0}) full o n (whole e p) (Ok turns.Still) y in
     subst T (sym at) (record {
       kept = may.kept;
-      few = refl;
+      spare = refl;
       turn = (
         record { stays = record { same = refl; marks = refl; faults = le_self p.manager.faults }; read = read; offers = told.0 },
         Refuses (turned [] (Some f) (with_end (Receives (paid e)) (whole e p).own)) f tt (owed_deed (p.stamp + 1) e owed f items.Nothing (whole e p) may h is) refl told.1,
@@ -235,7 +235,7 @@ module _ (p t : NodeState) (e : ReceiverEnd) (owed : Owed) (f : Frame) (extras :
       let k = z before frame_deed refl (receiver_turns e.cable) (frame_told may h is runs none) same may.kept may.served in
       record {
         kept = k.kept;
-        few = k.few;
+        spare = k.spare;
         turn = record {
           entry = turn_entry (actors.Receiver e.cable) calls.Turn choice delta frame_passed [];
           adds = k.adds;

@@ -109,7 +109,7 @@ want_so p a t e x reads writes none full o may g w k read written =
     let K : Plain → Type 0 = λ q. IsKept (record (whole e p) { manager = record p.manager { plain = q } }) in
     subst T (sym (k ∙ ap (λ (y : NodeState). whole e y) g)) (record {
       kept = subst K (sym w.plain) may.kept;
-      few = refl;
+      spare = refl;
       turn = record {
         stays = record { same = ap (λ (q : Plain). record (value_of (whole e p)) { node = node_in (record (whole e p) { manager = record p.manager { plain = q } }) }) w.plain; marks = refl; faults = w.later };
         read = read;

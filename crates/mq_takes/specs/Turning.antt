@@ -11,5 +11,5 @@ use Rattle.mq_turns.specs.Unseen.{EndTurn}
 -- Its turn, seen from before its first look: the history that it leaves replays.
 pub record TakesOne (cable : ℕ) (reads writes : List Item → Type 0) (empty full : Type 0) (o n : Offering) (old : NodeState) (result : Result Turn Want) (new : NodeState) : Type 0 where
   pub kept : IsKept new
-  pub few : new.few ≡ old.few
+  pub spare : new.spare ≡ old.spare
   pub turn : EndTurn (actors.Receiver cable) reads writes empty full o n old result new

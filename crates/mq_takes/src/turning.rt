@@ -135,7 +135,7 @@ fn is_up<D: Disk>(parts: &NodeParts<D>) -> bool
 
 /// Whether its manager had few rows when it began.
 fn is_few<D: Disk>(parts: &NodeParts<D>) -> bool
-    ensures { result ≡ parts.now.few }
+    ensures { result ≡ parts.now.spare.few }
 {
     parts.few
 }

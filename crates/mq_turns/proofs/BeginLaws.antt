@@ -88,7 +88,7 @@ module _ (s h : NodeState) (e : SenderEnd) (n count : ℕ) (choice : Choice) (de
       let c = (subst R rs (subst A is z)) s (pushes f) (before_of s h g) (sender_turns e.cable) (begun_told f extras next of st) (ap (λ (x : Own). own_by choice delta (with_end (Sends (behind_end e d)) x) x) same) acts.kept acts.served in
       record {
         kept = c.kept;
-        few = c.few;
+        spare = c.spare;
         turn = record { entry = turn_entry (actors.Sender e.cable) calls.Turn choice delta w []; adds = c.adds; popped = (read, tt); offered = (offered, spells) };
       }
 
@@ -106,7 +106,7 @@ module _ (s h : NodeState) (e : SenderEnd) (n count : ℕ) (choice : Choice) (de
       → reads [] → OffersNone writes o m → SendsTurn e.cable reads writes (Unit {0}) full o m s (Err x) a
   begun_wants a x reads writes full o m k b can read none = record {
     kept = want_kept s a (given_same a k) (given a b can) acts.kept;
-    few = ap (λ (y : NodeState). y.few) (given_same a k);
+    spare = ap (λ (y : NodeState). y.spare) (given_same a k);
     turn = record { stays = want_stays s a (given_same a k) (given a b can); read = read; offers = none };
   }
 
@@ -115,7 +115,7 @@ module _ (s h : NodeState) (e : SenderEnd) (n count : ℕ) (choice : Choice) (de
       → reads [] → OffersNone writes o m → IsFull full o (item_of f) → SendsTurn e.cable reads writes (Unit {0}) full o m s (Ok turns.Still) a
   begun_refused a f reads writes full o m k b can next of read none was = record {
     kept = want_kept s a (given_same a k) (given a b can) acts.kept;
-    few = ap (λ (y : NodeState). y.few) (given_same a k);
+    spare = ap (λ (y : NodeState). y.spare) (given_same a k);
     turn = (record { stays = want_stays s a (given_same a k) (given a b can); read = read; offers = none }, Refuses (pushes f) f tt (begun_deed f next of) refl was);
   }
 

@@ -1,7 +1,6 @@
 -- A node's type is kept by its sender's events: no counter rises, and no receiver keeps more.
-use Rattle.std.proofs.Common.{◌≡◌, ℕ, ◌+◌, ◌≤◌, sym, subst, ◌∙◌, arith}
-use Rattle.std.specs.Prelude.{Option, Some, None, Result, Ok, Err}
-use Rattle.mq_base.specs.declared.want.NoMemory.{NoMemory as Want}
+use Rattle.std.proofs.Common.{◌≡◌, ℕ, ◌+◌, ◌≤◌, refl, sym, ap, subst, ◌∙◌, length, arith}
+use Rattle.std.specs.Prelude.{Option, Some, None}
 use Rattle.mq_calls.specs.declared.choices.Choice.{Choice}
 use Rattle.mq_calls.specs.declared.choices.Choice.TheVariants.{Runs, NoMemory, Stopped}
 use Rattle.mq_history.specs.declared.calls.Actor.TheVariants as actors
@@ -11,31 +10,30 @@ use Rattle.mq_history.specs.declared.calls.Chance.TheVariants as chances
 use Rattle.mq_law_counts.specs.Counts.{Climbs}
 use Rattle.mq_law_counts.proofs.Climbing.{stay}
 use Rattle.mq_spec_node.specs.Terms.{Actor, Call, Entry, Seen}
-use Rattle.mq_spec_node.specs.Words.{Deed, Done, Node, choice_event, deed_of, done, done_by, event}
-use Rattle.mq_events.specs.States.{IsKept, NodeState, node_in}
-use Rattle.mq_events.specs.Counts.{HasBound, IsNode, kept_total}
+use Rattle.mq_spec_node.specs.Words.{Deed, Done, Node, NodeValue, choice_event, deed_of, done, done_by, event}
+use Rattle.mq_events.specs.Disks.{HasRisen}
+use Rattle.mq_events.specs.States.{IsKept, NodeState, Spare, node_in}
+use Rattle.mq_events.specs.Counts.{AreAside, AreCounted, HasBound, IsNode, kept_total, waiting_total}
 use Rattle.mq_events.specs.Events.{Adds, Stays}
-use Rattle.mq_events.proofs.CountLaws.{adds_long, climbs_counted, next_is}
+use Rattle.mq_events.proofs.CountLaws.{adds_long, aside_long, climbs_counted, next_is}
 use Rattle.mq_events.proofs.RiseLaws.{risen_more, risen_still}
-use Rattle.mq_turns.specs.declared.telling.Turn.{Turn}
-use Rattle.mq_turns.specs.declared.telling.Turn.TheVariants as turns
-use Rattle.mq_turns.specs.Turns.{IsSenders, TimeoutIs, TimesOut}
+use Rattle.mq_turns.specs.Turns.{IsSenders}
 use Rattle.mq_turns.proofs.QuietLaws.{IsQuiet, Quiet, none_climb, timeout_quiet, turn_quiet}
 
 -- What an event comes to.
 abbrev IsQuietDone : Done → Node → Type 0
-IsQuietDone o n = Climbs 0 n.manager o.next.manager × (kept_total o.next.own ≤ kept_total n.own)
+IsQuietDone o n = Climbs 0 n.manager o.next.manager × (kept_total o.next.own ≤ kept_total n.own) × (length o.next.own.ends ≡ length n.own.ends)
 
 le_self : (n : ℕ) → n ≤ n
 le_self n = omega arith
 
-still : (n : Node) → Climbs 0 n.manager n.manager × (kept_total n.own ≤ kept_total n.own)
-still n = (stay 0 n.manager, le_self (kept_total n.own))
+still : (n : Node) → Climbs 0 n.manager n.manager × (kept_total n.own ≤ kept_total n.own) × (length n.own.ends ≡ length n.own.ends)
+still n = (stay 0 n.manager, le_self (kept_total n.own), refl)
 
 done_quiet : (d : Deed) (choice : Choice) (n : Node) → IsQuiet d n.own → IsQuietDone (done d choice n) n
-done_quiet d Runs n q = ((none_climb d.parts n.manager q.0).all, q.1)
+done_quiet d Runs n q = ((none_climb d.parts n.manager q.0).all, q.1, q.2)
 done_quiet d NoMemory n q = still n
-done_quiet d (Stopped by part left) n q = ((none_climb d.parts n.manager q.0).stopped part left, le_self (kept_total n.own))
+done_quiet d (Stopped by part left) n q = ((none_climb d.parts n.manager q.0).stopped part left, le_self (kept_total n.own), refl)
 
 chosen_quiet : (chance : Chance) (d : Option Deed) (n : Node) → Quiet d n.own → IsQuietDone (choice_event chance d n) n
 chosen_quiet (chances.Call choice) None n q = still n
@@ -62,26 +60,43 @@ event_quiet stamp cable calls.Trigger chance seen n is = absurd is
 no_more : (a b : ℕ) → a ≤ b → a + 0 ≤ b + 1024
 no_more a b h = omega (arith, h)
 
-pub sender_counted : (cable : ℕ) (what : Call) (e : Entry) (s t : NodeState) → IsSenders what → IsNode s → IsKept t → t.few ≡ s.few → Adds (actors.Sender cable) what e s t → IsNode t
-sender_counted cable what e s t is n k few a =
-    let n0 : Node = node_in s in
-    let A : Actor → Type 0 = λ x. IsQuietDone (event e.stamp x e.call e.chance e.effect.popped n0) n0 in
-    let C : Call → Type 0 = λ x. IsQuietDone (event e.stamp (actors.Sender cable) x e.chance e.effect.popped n0) n0 in
-    let Q : Node → Type 0 = λ x. Climbs 0 s.manager.plain x.manager × (kept_total x.own ≤ kept_total s.own) in
-    let done : IsQuietDone (done_by e n0) n0 = subst A (sym a.actor) (subst C (sym a.call) (event_quiet e.stamp cable what e.chance e.effect.popped n0 is)) in
-    let q : Q (node_in t) = subst Q (sym (next_is (actors.Sender cable) what e s t n.kept k a)) done in
-    record { kept = k; counted = climbs_counted 0 s t n.counted few (adds_long (actors.Sender cable) what e s t a) q.0 (no_more (kept_total t.own) (kept_total s.own) q.1); risen = risen_more (actors.Sender cable) what e s t n.risen a }
+-- the event is quiet
+module _ (cable : ℕ) (what : Call) (e : Entry) (s t : NodeState) (is : IsSenders what) (kept : IsKept s) (k : IsKept t) (a : Adds (actors.Sender cable) what e s t) where
+  abbrev n0 : Node
+  n0 = node_in s
 
-pub stays_counted : (s t : NodeState) → IsNode s → IsKept t → t.few ≡ s.few → Stays s t → IsNode t
-stays_counted s t n k few st = record { kept = k; counted = λ f. subst HasBound (sym st.same) (n.counted (sym few ∙ f)); risen = risen_still s t n.risen st }
+  abbrev QuietTo : Node → Type 0
+  QuietTo x = Climbs 0 s.manager.plain x.manager × (kept_total x.own ≤ kept_total s.own) × (length x.own.ends ≡ length s.own.ends)
 
-timed_by : (s t : NodeState) (cable : ℕ) (d : Option Deed) (result : Result Turn Want) → IsNode s → IsKept t → t.few ≡ s.few → TimeoutIs cable d s result t → IsNode t
-timed_by s t cable (Some d) (Ok turns.Changed) n k f h = sender_counted cable calls.Timeout h.0 s t tt n k f h.1
-timed_by s t cable None (Ok turns.Changed) n k f h = absurd h
-timed_by s t cable (Some d) (Ok turns.Still) n k f h = absurd h
-timed_by s t cable None (Ok turns.Still) n k f h = stays_counted s t n k f h
-timed_by s t cable (Some d) (Err e) n k f h = stays_counted s t n k f h
-timed_by s t cable None (Err e) n k f h = stays_counted s t n k f h
+  sender_quiet : QuietTo (node_in t)
+  sender_quiet =
+      let A : Actor → Type 0 = λ x. IsQuietDone (event e.stamp x e.call e.chance e.effect.popped n0) n0 in
+      let C : Call → Type 0 = λ x. IsQuietDone (event e.stamp (actors.Sender cable) x e.chance e.effect.popped n0) n0 in
+      let done : IsQuietDone (done_by e n0) n0 = subst A (sym a.actor) (subst C (sym a.call) (event_quiet e.stamp cable what e.chance e.effect.popped n0 is)) in
+      subst QuietTo (sym (next_is (actors.Sender cable) what e s t kept k a)) done
 
-pub timed_node : (s t : NodeState) (cable : ℕ) (result : Result Turn Want) → IsNode s → IsKept t → t.few ≡ s.few → TimesOut cable s result t → IsNode t
-timed_node s t cable result n k f h = timed_by s t cable _ result n k f h
+  pub sender_counted : AreCounted s → HasRisen s.history.entries s.manager.faults → t.spare.few ≡ s.spare.few → AreAside t → IsNode t
+  sender_counted counted risen few aside =
+      let q : QuietTo (node_in t) = sender_quiet in
+      record {
+        kept = k;
+        counted = climbs_counted 0 s t counted few (adds_long (actors.Sender cable) what e s t a) q.0 (no_more (kept_total t.own) (kept_total s.own) q.1);
+        risen = risen_more (actors.Sender cable) what e s t risen a;
+        aside = aside;
+      }
+
+-- so where an entry was set aside for each end
+pub turned_counted : (cable : ℕ) (e : Entry) (s t : NodeState) → IsNode s → length s.own.ends ≤ s.spare.aside → IsKept t → t.spare ≡ s.spare → Adds (actors.Sender cable) calls.Turn e s t → IsNode t
+turned_counted cable e s t n enough k spare a =
+    sender_counted cable calls.Turn e s t tt n.kept k a n.counted n.risen (ap (λ (x : Spare). x.few) spare) (aside_long s t enough spare (sender_quiet cable calls.Turn e s t tt n.kept k a).2)
+
+same_aside : (a b c d : ℕ) → a ≡ b → b ≤ c → d ≡ c → a ≤ d
+same_aside a b c d i x j = omega (arith, i, x, j)
+
+pub stays_counted : (s t : NodeState) → IsNode s → IsKept t → t.spare ≡ s.spare → Stays s t → IsNode t
+stays_counted s t n k spare st = record {
+  kept = k;
+  counted = λ f. subst HasBound (sym st.same) (n.counted (ap (λ (x : Spare). x.few) (sym spare) ∙ f));
+  risen = risen_still s t n.risen st;
+  aside = same_aside (waiting_total t.own) (waiting_total s.own) s.spare.aside t.spare.aside (ap (λ (v : NodeValue). waiting_total v.node.own) st.same) n.aside (ap (λ (x : Spare). x.aside) spare);
+}

@@ -1,8 +1,7 @@
 -- When a sender has a timeout.
 use Rattle.std.proofs.Common.{◌≡◌, ℕ, ◌+◌, ◌^◌, ◌<◌, ◌||◌, nat_le, refl, sym, ap, subst, ◌∙◌, Bool, true, false, length, arith}
 use Rattle.std.proofs.lemmas.Bool.Decides.{nat_tests}
-use Rattle.std.specs.Prelude.{Option, Some, None, Result, Ok, Err, if◌then◌else◌}
-use Rattle.mq_base.specs.declared.want.NoMemory.{NoMemory as Want}
+use Rattle.std.specs.Prelude.{Option, Some, None, if◌then◌else◌}
 use Rattle.mq_frame.specs.declared.frame.Seen.TheVariants as items
 use Rattle.mq_history.specs.declared.calls.Actor.TheVariants as actors
 use Rattle.mq_history.specs.declared.calls.Call.TheVariants as calls
@@ -82,18 +81,14 @@ due_end s cable e up there waits =
 pub own_due : (s : NodeState) (cable : ℕ) (e : SenderEnd) → IsDue cable e s → IsDue e.cable e s
 own_due s cable e d = record { cable_is = refl; up = d.up; there = d.there; waits = d.waits }
 
-pub at_cable : (s t : NodeState) (cable : ℕ) (e : SenderEnd) (result : Result Turn Want) → IsDue cable e s → TimesOut e.cable s result t → TimesOut cable s result t
-at_cable s t cable e result d h = subst (λ (n : ℕ). TimesOut n s result t) d.cable_is h
+pub at_cable : (s t : NodeState) (cable : ℕ) (e : SenderEnd) (turn : Turn) → IsDue cable e s → TimesOut e.cable s turn t → TimesOut cable s turn t
+at_cable s t cable e turn d h = subst (λ (n : ℕ). TimesOut n s turn t) d.cable_is h
 
 -- Nothing is done.
-pub still_undue : (s : NodeState) (cable : ℕ) → IsUndue cable s → TimesOut cable s (Ok turns.Still) s
+pub still_undue : (s : NodeState) (cable : ℕ) → IsUndue cable s → TimesOut cable s turns.Still s
 still_undue s cable e =
-    let T : Option Deed → Type 0 = λ o. TimeoutIs cable o s (Ok turns.Still) s in
+    let T : Option Deed → Type 0 = λ o. TimeoutIs cable o s turns.Still s in
     subst T (sym e) (record { same = refl; marks = refl; faults = omega arith })
-
-wanted_is : (s : NodeState) (room cable : ℕ) (d : Option Deed) (x : Want) → TimeoutIs cable d s (Err x) (record s { room = room })
-wanted_is s room cable None x = record { same = refl; marks = refl; faults = omega arith }
-wanted_is s room cable (Some d) x = record { same = refl; marks = refl; faults = omega arith }
 
 -- A node that may act has room for a stamp.
 no_second : (a b : Bool) → (a || b) ≡ false → b ≡ false
@@ -107,16 +102,8 @@ pub may_low : (s : NodeState) → MayAct s → s.stamp < 2 ^ 60
 may_low s m = few (2 ^ 60) s.stamp (no_second (nat_le (2 ^ 48) (length s.history.entries)) (nat_le (2 ^ 60) s.stamp) m)
 
 -- Room was taken before.
-pub room_wanted : (s r : NodeState) (cable : ℕ) (x : Want) → r ≡ record s { room = r.room } → TimesOut cable s (Err x) r
-room_wanted s r cable x e =
-    let d : Option Deed = deed_of (s.stamp + 1) (actors.Sender cable) calls.Timeout items.Nothing (node_in s) in
-    subst (λ (y : NodeState). TimeoutIs cable d s (Err x) y) (sym e) (wanted_is s r.room cable d x)
-
 pub room_kept : (s r : NodeState) → r ≡ record s { room = r.room } → IsKept s → IsKept r
 room_kept s r e h = subst (λ (x : NodeState). IsKept x) (sym e) h
-
-pub room_few : (s r t : NodeState) → r ≡ record s { room = r.room } → t.few ≡ r.few → t.few ≡ s.few
-room_few s r t e h = h ∙ ap (λ (x : NodeState). x.few) e
 
 pub room_served : (s r : NodeState) → r ≡ record s { room = r.room } → IsServed s → IsServed r
 room_served s r e h = subst (λ (x : NodeState). IsServed x) (sym e) h
@@ -124,14 +111,16 @@ room_served s r e h = subst (λ (x : NodeState). IsServed x) (sym e) h
 pub room_may : (s r : NodeState) → r ≡ record s { room = r.room } → MayAct s → MayAct r
 room_may s r e h = subst (λ (x : NodeState). MayAct x) (sym e) h
 
-pub room_due : (s r : NodeState) (cable : ℕ) (end : SenderEnd) → r ≡ record s { room = r.room } → IsDue cable end s → IsDue cable end r
-room_due s r cable end e d = subst (λ (x : NodeState). IsDue cable end x) (sym e) (record { cable_is = d.cable_is; up = d.up; there = d.there; waits = d.waits })
+-- Entries were set aside before, or one of them is room.
+module _ (s r : NodeState) (e : r ≡ record s { spare = r.spare; room = r.room }) where
+  pub beside_kept : IsKept s → IsKept r
+  beside_kept h = subst IsKept (sym e) h
 
-pub room_timed : (s r t : NodeState) (cable : ℕ) → r ≡ record s { room = r.room } → TimesOut cable r (Ok turns.Changed) t → TimesOut cable s (Ok turns.Changed) t
-room_timed s r t cable e h =
-    let T : NodeState → Type 0 = λ x. TimesOut cable x (Ok turns.Changed) t in
-    at (deed_of (s.stamp + 1) (actors.Sender cable) calls.Timeout items.Nothing (node_in s)) (subst T e h)
-  where
-    at : (d : Option Deed) → TimeoutIs cable d (record s { room = r.room }) (Ok turns.Changed) t → TimeoutIs cable d s (Ok turns.Changed) t
-    at None h = absurd h
-    at (Some d) h = (h.0, record { grows = record { given = h.1.grows.given; history = h.1.grows.history }; actor = h.1.actor; call = h.1.call; marks = h.1.marks; faults = h.1.faults; rose = h.1.rose })
+  pub beside_served : IsServed s → IsServed r
+  beside_served h = subst IsServed (sym e) h
+
+  pub beside_may : MayAct s → MayAct r
+  beside_may h = subst MayAct (sym e) h
+
+  pub beside_due : (cable : ℕ) (end : SenderEnd) → IsDue cable end s → IsDue cable end r
+  beside_due cable end d = subst (λ (x : NodeState). IsDue cable end x) (sym e) (record { cable_is = d.cable_is; up = d.up; there = d.there; waits = d.waits })

@@ -3,6 +3,7 @@ pub mod AgentLaws
 pub mod RunLaws
 pub mod TurnLaws
 pub mod DueLaws
+pub mod WaitLaws
 pub mod TimeLaws
 pub mod TableLaws
 pub mod SendLaws
@@ -17,4 +18,5 @@ pub mod PrepareLaws
 pub mod PreparedLaws
 pub mod QuietLaws
 pub mod CountLaws
+pub mod TimedLaws
 pub mod NodeLaws

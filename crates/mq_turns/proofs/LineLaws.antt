@@ -54,7 +54,7 @@ pub still_line : (s : NodeState) (e : SenderEnd) (reads writes : List Item → T
     → SendsTurn e.cable reads writes (Unit {0}) full o o s (Ok turns.Still) s
 still_line s e reads writes full o acts next read written = record {
   kept = acts.kept;
-  few = refl;
+  spare = refl;
   turn = (
     record { stays = record { same = refl; marks = refl; faults = omega arith }; read = read; offers = record { same = refl; written = written } },
     Idles tt (turn_is (s.stamp + 1) e.cable e does.Still items.Nothing (node_in s) acts.up acts.there next),

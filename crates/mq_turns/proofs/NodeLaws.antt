@@ -1,5 +1,5 @@
 -- A sender's turn at its node: which end acts, room for its entry, and the node's type.
-use Rattle.std.proofs.Common.{◌≡◌, ℕ, ◌+◌, refl, sym, ap, subst, List, [], false, true, arith}
+use Rattle.std.proofs.Common.{◌≡◌, ℕ, ◌+◌, ◌≤◌, refl, sym, ap, subst, List, [], false, true, length, arith}
 use Rattle.std.specs.Prelude.{Option, Some, None, Result, Ok, Err}
 use Rattle.mq_base.specs.declared.want.NoMemory.{NoMemory as Want}
 use Rattle.mq_cable.specs.declared.item.Item.{Item}
@@ -10,7 +10,7 @@ use Rattle.mq_history.specs.declared.calls.Actor.TheVariants as actors
 use Rattle.mq_history.specs.declared.calls.Call.TheVariants as calls
 use Rattle.mq_calls.specs.Reads.{is_up}
 use Rattle.mq_spec_node.specs.Words.{Deed, SenderEnd, sender_end, sender_turn}
-use Rattle.mq_events.specs.States.{IsKept, IsServed, NodeState, node_in}
+use Rattle.mq_events.specs.States.{IsKept, IsServed, NodeState, Spare, node_in}
 use Rattle.mq_events.specs.Counts.{IsNode}
 use Rattle.mq_events.specs.Events.{MayAct}
 use Rattle.mq_turns.specs.declared.telling.Turn.{Turn}
@@ -19,7 +19,7 @@ use Rattle.mq_turns.specs.Wired.{Idles, TurnIs}
 use Rattle.mq_turns.specs.Acting.{Acts, SendsTurn}
 use Rattle.mq_turns.specs.Turning.{IsHere, NeverActs, SendsAt}
 use Rattle.mq_turns.specs.Unseen.{Empty, EndTurn, IsUnseen, Rests, turn_deed}
-use Rattle.mq_turns.proofs.CountLaws.{sender_counted, stays_counted}
+use Rattle.mq_turns.proofs.CountLaws.{stays_counted, turned_counted}
 use Rattle.mq_turns.proofs.DueLaws.{cable_found, down_is, none_is}
 use Rattle.mq_turns.proofs.WireLaws.{sends_widened}
 
@@ -44,20 +44,20 @@ pub room_acts : (s r : NodeState) (e : SenderEnd) → r ≡ record s { room = r.
 room_acts s r e g a = subst (λ (x : NodeState). Acts e x) (sym g) (record { kept = a.kept; served = a.served; may = a.may; up = a.up; there = a.there })
 
 module _ (reads writes : List Item → Type 0) (none full : Type 0) (o n : Offering) where
-  in_room : (who : Actor) (s t : NodeState) (room : ℕ) (d : Option Deed) (result : Result Turn Want) → TurnIs who reads writes none full o n d (record s { room = room }) result t → TurnIs who reads writes none full o n d s result t
-  in_room who s t room d (Ok turns.Changed) h = record {
+  pub in_room : (who : Actor) (s t : NodeState) (spare : Spare) (room : ℕ) (d : Option Deed) (result : Result Turn Want) → TurnIs who reads writes none full o n d (record s { spare = spare; room = room }) result t → TurnIs who reads writes none full o n d s result t
+  in_room who s t spare room d (Ok turns.Changed) h = record {
     entry = h.entry;
     adds = record { grows = h.adds.grows; actor = h.adds.actor; call = h.adds.call; marks = h.adds.marks; faults = h.adds.faults; rose = h.adds.rose };
     popped = h.popped;
     offered = h.offered;
   }
-  in_room who s t room d (Ok turns.Still) h = (record { stays = record { same = h.0.stays.same; marks = h.0.stays.marks; faults = h.0.stays.faults }; read = h.0.read; offers = h.0.offers }, h.1)
-  in_room who s t room d (Err e) h = record { stays = record { same = h.stays.same; marks = h.stays.marks; faults = h.stays.faults }; read = h.read; offers = h.offers }
+  in_room who s t spare room d (Ok turns.Still) h = (record { stays = record { same = h.0.stays.same; marks = h.0.stays.marks; faults = h.0.stays.faults }; read = h.0.read; offers = h.0.offers }, h.1)
+  in_room who s t spare room d (Err e) h = record { stays = record { same = h.stays.same; marks = h.stays.marks; faults = h.stays.faults }; read = h.read; offers = h.offers }
 
   pub room_turn : (cable : ℕ) (s r t : NodeState) (result : Result Turn Want) → r ≡ record s { room = r.room } → SendsTurn cable reads writes none full o n r result t → SendsTurn cable reads writes none full o n s result t
   room_turn cable s r t result g h =
       let k : SendsTurn cable reads writes none full o n (record s { room = r.room }) result t = subst (λ (x : NodeState). SendsTurn cable reads writes none full o n x result t) g h in
-      record { kept = k.kept; few = k.few; turn = in_room _ s t r.room _ result k.turn }
+      record { kept = k.kept; spare = k.spare; turn = in_room _ s t s.spare r.room _ result k.turn }
 
 -- there was none
 pub room_want : (s r : NodeState) (cable : ℕ) (x : Want) (reads writes : List Item → Type 0) (none full : Type 0) (o : Offering) → r ≡ record s { room = r.room } → IsKept s → reads [] → writes [] → SendsTurn cable reads writes none full o o s (Err x) r
@@ -66,7 +66,7 @@ room_want s r cable x reads writes none full o g k read written = subst (λ (y :
     at : (room : ℕ) → SendsTurn cable reads writes none full o o s (Err x) (record s { room = room })
     at room = record {
       kept = k;
-      few = refl;
+      spare = refl;
       turn = record { stays = record { same = refl; marks = refl; faults = omega arith }; read = read; offers = record { same = refl; written = written } };
     }
 
@@ -74,7 +74,7 @@ room_want s r cable x reads writes none full o g k read written = subst (λ (y :
 pub stands_still : (s : NodeState) (cable : ℕ) (reads writes : List Item → Type 0) (empty full : Type 0) (o : Offering) → NeverActs cable s → IsKept s → reads [] → writes [] → SendsAt cable reads writes empty full o o s (Ok turns.Still) s
 stands_still s cable reads writes empty full o never k read written = record {
   kept = k;
-  few = refl;
+  spare = refl;
   turn = (record { stays = record { same = refl; marks = refl; faults = omega arith }; read = read; offers = record { same = refl; written = written } }, Idles (Rests never) (never items.Nothing));
 }
 
@@ -84,14 +84,28 @@ module _ (cable : ℕ) (reads writes : List Item → Type 0) (empty full : Type 
       sends_widened reads writes reads writes empty full (IsUnseen empty (turn_deed (actors.Sender cable) s)) full (λ xs x. x) (λ xs x. x) (λ r k. Empty k) (λ x. x) cable o n s result t
       (subst (λ (c : ℕ). SendsTurn c reads writes empty full o n s result t) here.cable_is h)
 
-  -- its type
-  pub sent_node : (result : Result Turn Want) → IsNode s → SendsAt cable reads writes empty full o n s result t → IsNode t
-  sent_node (Ok turns.Changed) k h = sender_counted cable calls.Turn h.turn.entry s t tt k h.kept h.few h.turn.adds
-  sent_node (Ok turns.Still) k h = stays_counted s t k h.kept h.few h.turn.0.stays
-  sent_node (Err e) k h = stays_counted s t k h.kept h.few h.turn.stays
+  -- its type, where an entry was set aside for each end
+  pub sent_node : (result : Result Turn Want) → IsNode s → length s.own.ends ≤ s.spare.aside → SendsAt cable reads writes empty full o n s result t → IsNode t
+  sent_node (Ok turns.Changed) k enough h = turned_counted cable h.turn.entry s t k enough h.kept h.spare h.turn.adds
+  sent_node (Ok turns.Still) k enough h = stays_counted s t k h.kept h.spare h.turn.0.stays
+  sent_node (Err e) k enough h = stays_counted s t k h.kept h.spare h.turn.stays
+
+-- So of the node, for which entries were set aside before.
+pub aside_turn : (cable : ℕ) (reads writes : List Item → Type 0) (empty full : Type 0) (o n : Offering) (s r t : NodeState) (result : Result Turn Want) → r ≡ record s { spare = r.spare; room = r.room } → SendsAt cable reads writes empty full o n r result t
+    → EndTurn (actors.Sender cable) reads writes empty full o n s result t
+aside_turn cable reads writes empty full o n s r t result e h =
+    let k : SendsAt cable reads writes empty full o n (record s { spare = r.spare; room = r.room }) result t = subst (λ (x : NodeState). SendsAt cable reads writes empty full o n x result t) e h in
+    in_room reads writes (IsUnseen empty (turn_deed (actors.Sender cable) s)) full o n (actors.Sender cable) s t r.spare r.room (turn_deed (actors.Sender cable) s items.Nothing) result k.turn
+
+-- there was no memory to set aside
+pub aside_want : (cable : ℕ) (s r : NodeState) (x : Want) (reads writes : List Item → Type 0) (empty full : Type 0) (o : Offering) → r ≡ record s { spare = r.spare; room = r.room } → reads [] → writes []
+    → EndTurn (actors.Sender cable) reads writes empty full o o s (Err x) r
+aside_want cable s r x reads writes empty full o e read written = subst (λ (y : NodeState). EndTurn (actors.Sender cable) reads writes empty full o o s (Err x) y) (sym e)
+    (record { stays = record { same = refl; marks = refl; faults = omega arith }; read = read; offers = record { same = refl; written = written } })
 
 -- said of its node
-pub ended_at : (cable : ℕ) (reads writes : List Item → Type 0) (empty full : Type 0) (o n : Offering) (s p t : NodeState) (result : Result Turn Want) → p ≡ s → SendsAt cable reads writes empty full o n p result t → EndTurn (actors.Sender cable) reads writes empty full o n s result t
+pub ended_at : (cable : ℕ) (reads writes : List Item → Type 0) (empty full : Type 0) (o n : Offering) (s p t : NodeState) (result : Result Turn Want) → p ≡ s → EndTurn (actors.Sender cable) reads writes empty full o n p result t
+    → EndTurn (actors.Sender cable) reads writes empty full o n s result t
 ended_at cable reads writes empty full o n s p t result is h =
     let E : NodeState → Type 0 = λ x. EndTurn (actors.Sender cable) reads writes empty full o n x result t in
-    subst E is h.turn
+    subst E is h

@@ -56,7 +56,7 @@ module _ (s t : NodeState) (e : SenderEnd) (choice : Choice) (delta : List Did) 
       let k = z s (pushed_deed e d f (node_in s)) refl (sender_turns e.cable) (pushed_told d f extras acts next deed st c g) refl acts.kept acts.served in
       record {
         kept = k.kept;
-        few = k.few;
+        spare = k.spare;
         turn = record { entry = turn_entry (actors.Sender e.cable) calls.Turn choice delta w []; adds = k.adds; popped = (read, tt); offered = (offered, spells) };
       }
 
@@ -78,12 +78,12 @@ refused : (s : NodeState) (e : SenderEnd) (d : SenderDoes) (f : Frame) (reads wr
     → sender_deed_by (s.stamp + 1) e d (node_in s) ≡ Some (pushed_deed e d f (node_in s)) → reads [] → OffersNone writes o n → IsFull full o (item_of f) → SendsTurn e.cable reads writes (Unit {0}) full o n s (Ok turns.Still) s
 refused s e d f reads writes full o n acts next deed read none was = record {
   kept = acts.kept;
-  few = refl;
+  spare = refl;
   turn = (record { stays = stays s; read = read; offers = none }, Refuses (pushed_deed e d f (node_in s)) f tt (turn_is (s.stamp + 1) e.cable e d items.Nothing (node_in s) acts.up acts.there next ∙ deed) refl was);
 }
 
 pub untaken : (s : NodeState) (cable : ℕ) (x : Want) (reads writes : List Item → Type 0) (none full : Type 0) (o n : Offering) → IsKept s → reads [] → OffersNone writes o n → SendsTurn cable reads writes none full o n s (Err x) s
-untaken s cable x reads writes none full o n kept read offers = record { kept = kept; few = refl; turn = record { stays = stays s; read = read; offers = offers } }
+untaken s cable x reads writes none full o n kept read offers = record { kept = kept; spare = refl; turn = record { stays = stays s; read = read; offers = offers } }
 
 -- so by what the offer came to
 pub pushed_as : (s t : NodeState) (e after : SenderEnd) (choice : Choice) (delta : List Did) (d : SenderDoes) (f : Frame) (extras : ℕ) (received : List Message) (reads writes : List Item → Type 0) (full : Type 0) (o n : Offering) (x : Option ℕ) → x ≡ Some extras → OfferTold writes full o f (Ok x) n → after ≡ behind_end e d → received ≡ []

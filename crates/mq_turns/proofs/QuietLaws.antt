@@ -1,4 +1,4 @@
--- A sender's turns and timeouts raise no counter of its manager, and leave what receivers keep.
+-- A sender's turns and timeouts raise no counter of its manager, leave what receivers keep, and are of as many ends.
 use Rattle.std.proofs.Common.{◌≡◌, ℕ, ◌+◌, ◌≤◌, refl, sym, ap, subst, List, [], ◌∷◌, ◌++◌, Bool, true, false, length, arith}
 use Rattle.std.specs.Prelude.{Option, Some, None, if◌then◌else◌, ◌==◌}
 use Rattle.std.specs.List.{AllByRecursion}
@@ -32,6 +32,7 @@ use Rattle.mq_spec_node.specs.Terms.{Frame, Plain, PrepareFault, Running, Up, Do
 use Rattle.mq_spec_node.specs.Words.{ChannelEnd, Deed, Node, Own, SenderEnd, after_timeout, as_sender, cable_of, carried, doubted, end_in, leave_if_stopped, parts_of, prepare_deed, sender_deed_by, sender_end, sender_turn, sent, set_end, settle_parts, settle_parts_if, timeout_of, where_up, with_end}
 use Rattle.mq_spec_node.specs.Node.ChannelEnd.{Receives, Sends}
 use Rattle.mq_events.specs.Counts.{kept_in, kept_total}
+use Rattle.mq_events.proofs.KeepLaws.{with_long}
 use Rattle.mq_turns.proofs.DueLaws.{cable_found}
 
 -- Parts that bring nothing.
@@ -123,7 +124,7 @@ kept_same own e new there = le_same (kept_total (with_end (Sends new) own)) (kep
 
 -- Deeds of a sender.
 abbrev pub IsQuiet : Deed → Own → Type 0
-IsQuiet d own = BringNone d.parts × (kept_total d.own ≤ kept_total own)
+IsQuiet d own = BringNone d.parts × (kept_total d.own ≤ kept_total own) × (length d.own.ends ≡ length own.ends)
 
 abbrev pub Quiet : Option Deed → Own → Type 0
 Quiet None own = Unit {0}
@@ -136,18 +137,20 @@ sent_quiet : (e : SenderEnd) (d : SenderDoes) (parts : List Part) (pushed : Opti
 sent_quiet e d parts pushed n there b = (
   some_bring parts (leave_if_stopped e.channel (sender_after e.machine d outs.Done).state n.manager) b (leaves_bring (is_running (sender_after e.machine d outs.Done).state) e.channel n.manager),
   kept_same n.own e (after e (sender_after e.machine d outs.Done)) there,
+  with_long (Sends (after e (sender_after e.machine d outs.Done))) n.own,
 )
 
 prepared_quiet : (e : SenderEnd) (s : Step PrepareFault (Unit {0})) (n : Node) → sender_end e.cable n.own ≡ Some e → StepBrings s → IsQuiet (prepare_deed e s n) n.own
 prepared_quiet e (Refuse fault) n there b = (
   some_bring (parts_of (release_batch e.channel n.manager)) (parts_of (leave e.channel n.manager)) (release_brings e.channel (batch_of e.channel n.manager.channels.batches)) (leave_brings e.channel n.manager),
   kept_same n.own e (after e (sender_after e.machine does.Prepare outs.NoRoom)) there,
+  with_long (Sends (after e (sender_after e.machine does.Prepare outs.NoRoom))) n.own,
 )
 prepared_quiet e (Do reply parts) n there b = sent_quiet e does.Prepare parts None n there b
 
 line_quiet : (stamp : ℕ) (e : SenderEnd) (d : SenderDoes) (n : Node) → sender_end e.cable n.own ≡ Some e → Quiet (sender_deed_by stamp e d n) n.own
 line_quiet stamp e does.Still n there = tt
-line_quiet stamp e does.Ignore n there = (tt, le_same (kept_total n.own) (kept_total n.own) refl)
+line_quiet stamp e does.Ignore n there = (tt, le_same (kept_total n.own) (kept_total n.own) refl, refl)
 line_quiet stamp e (does.HardenSession session) n there =
     sent_quiet e (does.HardenSession session) (parts_of (harden e.channel (notes.Session e.partner session) n.manager)) None n there (harden_brings e.channel (notes.Session e.partner session) n.manager)
 line_quiet stamp e does.PushBind n there = sent_quiet e does.PushBind [] (Some (bind_frame stamp e.machine)) n there tt
@@ -179,7 +182,7 @@ timed_if false d own q = tt
 timed_quiet : (cable : ℕ) (n : Node) (o : Option SenderEnd) → sender_end cable n.own ≡ o → Quiet (timeout_of o n) n.own
 timed_quiet cable n None there = tt
 timed_quiet cable n (Some e) there = timed_if (awaits e.machine.state) (after_timeout e (timed_out e.machine) n) n.own
-    (leaves_bring (is_running (timed_out e.machine).state) e.channel n.manager, kept_same n.own e (after e (timed_out e.machine)) (own_place cable n.own e there))
+    (leaves_bring (is_running (timed_out e.machine).state) e.channel n.manager, kept_same n.own e (after e (timed_out e.machine)) (own_place cable n.own e there), with_long (Sends (after e (timed_out e.machine))) n.own)
 
 up_quiet : (r : Running) (d : Option Deed) (own : Own) → Quiet d own → Quiet (where_up r d) own
 up_quiet Up d own q = q

@@ -61,7 +61,7 @@ module _ (s a t : NodeState) (e last : SenderEnd) (parts : List Part) (seen : Se
       let k = z s d (before_of s a g) (sender_turns e.cable) (told_is deed sees made) (ap (λ (x : Own). own_by choice delta (with_end (Sends last) x) x) same) acts.kept acts.served in
       record {
         kept = k.kept;
-        few = k.few;
+        spare = k.spare;
         turn = record { entry = turn_entry (actors.Sender e.cable) calls.Turn choice delta w []; adds = k.adds; popped = popped; offered = record { same = refl; written = written } };
       }
 
@@ -117,7 +117,7 @@ want_stays s a g w =
 pub want_turn : (s a : NodeState) (cable : ℕ) (x : Want) (reads writes : List Item → Type 0) (none full : Type 0) (o : Offering) → a ≡ record s { manager = a.manager } → IsAsWas s.manager a.manager → IsKept s → reads [] → writes [] → SendsTurn cable reads writes none full o o s (Err x) a
 want_turn s a cable x reads writes none full o g w k read written = record {
   kept = want_kept s a g w k;
-  few = ap (λ (y : NodeState). y.few) g;
+  spare = ap (λ (y : NodeState). y.spare) g;
   turn = record { stays = want_stays s a g w; read = read; offers = record { same = refl; written = written } };
 }
 

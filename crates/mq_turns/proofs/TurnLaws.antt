@@ -116,7 +116,7 @@ closed_so s p q t actor call choice delta behind w received d k z before a told 
     record {
       kept = turn_kept s t actor call d choice delta w received p.manager a told kept served p.room is;
       adds = turn_adds s t actor call d choice delta w received p.manager told p.room is;
-      few = ap (λ (x : NodeState). x.few) is;
+      spare = ap (λ (x : NodeState). x.spare) is;
       manager_is = ap (λ (x : NodeState). x.manager) is;
       own_is = ap (λ (x : NodeState). x.own) is;
     }

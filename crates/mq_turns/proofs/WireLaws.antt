@@ -65,4 +65,4 @@ module _ (reads writes rs ws : List Item → Type 0) (none full no fu : Type 0) 
   turn_widened who o n d old (Err e) new t = wide_untaken o n old new t
 
   pub sends_widened : (cable : ℕ) (o n : Offering) (old : NodeState) (result : Result Turn Want) (new : NodeState) → SendsTurn cable reads writes none full o n old result new → SendsTurn cable rs ws no fu o n old result new
-  sends_widened cable o n old result new t = record { kept = t.kept; few = t.few; turn = turn_widened (actors.Sender cable) o n _ old result new t.turn }
+  sends_widened cable o n old result new t = record { kept = t.kept; spare = t.spare; turn = turn_widened (actors.Sender cable) o n _ old result new t.turn }

@@ -24,5 +24,5 @@ pub record Acts (e : SenderEnd) (s : NodeState) : Type 0 where
 -- Its turn: the history that it leaves replays.
 pub record SendsTurn (cable : ℕ) (reads writes : List Item → Type 0) (none full : Type 0) (o n : Offering) (old : NodeState) (result : Result Turn Want) (new : NodeState) : Type 0 where
   pub kept : IsKept new
-  pub few : new.few ≡ old.few
+  pub spare : new.spare ≡ old.spare
   pub turn : TurnIs (actors.Sender cable) reads writes none full o n (deed_of (old.stamp + 1) (actors.Sender cable) calls.Turn items.Nothing (node_in old)) old result new

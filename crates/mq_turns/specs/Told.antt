@@ -36,7 +36,7 @@ IsBefore s p = p ≡ record s { manager = p.manager; own = p.own; room = p.room 
 pub record Closed (s : NodeState) (actor : Actor) (call : Call) (e : Entry) (m : CoreValue) (own : Own) (t : NodeState) : Type 0 where
   pub kept : IsKept t
   pub adds : Adds actor call e s t
-  pub few : t.few ≡ s.few
+  pub spare : t.spare ≡ s.spare
   pub manager_is : t.manager ≡ m
   pub own_is : t.own ≡ own
 

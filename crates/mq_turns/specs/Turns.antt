@@ -103,16 +103,15 @@ own_by NoMemory delta behind before = before
 own_by (Stopped by n left) delta behind before = before
 
 -- A timeout, by its deed: an event more, or none, and then nothing has changed.
-abbrev pub TimeoutIs : ℕ → Option Deed → NodeState → Result Turn Want → NodeState → Type 0
-TimeoutIs cable (Some d) old (Ok turns.Changed) new = (e : Entry) × Adds (actors.Sender cable) calls.Timeout e old new
-TimeoutIs cable None old (Ok turns.Changed) new = ⊥
-TimeoutIs cable (Some d) old (Ok turns.Still) new = ⊥
-TimeoutIs cable None old (Ok turns.Still) new = Stays old new
-TimeoutIs cable d old (Err e) new = Stays old new
+abbrev pub TimeoutIs : ℕ → Option Deed → NodeState → Turn → NodeState → Type 0
+TimeoutIs cable (Some d) old turns.Changed new = (e : Entry) × Adds (actors.Sender cable) calls.Timeout e old new
+TimeoutIs cable None old turns.Changed new = ⊥
+TimeoutIs cable (Some d) old turns.Still new = ⊥
+TimeoutIs cable None old turns.Still new = Stays old new
 
 -- so by what the node's sender end does then
-abbrev pub TimesOut : ℕ → NodeState → Result Turn Want → NodeState → Type 0
-TimesOut cable old result new = TimeoutIs cable (deed_of (old.stamp + 1) (actors.Sender cable) calls.Timeout items.Nothing (node_in old)) old result new
+abbrev pub TimesOut : ℕ → NodeState → Turn → NodeState → Type 0
+TimesOut cable old turn new = TimeoutIs cable (deed_of (old.stamp + 1) (actors.Sender cable) calls.Timeout items.Nothing (node_in old)) old turn new
 
 -- a sender end that waits for an answer, at a manager that is up
 pub record IsDue (cable : ℕ) (e : SenderEnd) (s : NodeState) : Type 0 where

@@ -1,6 +1,7 @@
 //! A sender's timeout.
-ghost use Rattle.std.specs.Prelude.{◌≡◌, ◌<◌, Ok, MatchOption};
+ghost use Rattle.std.specs.Prelude.{◌≡◌, ◌<◌, ◌+◌, MatchOption};
 ghost use Rattle.mq_sender.specs.States.{timed_out};
+ghost use Rattle.mq_events.specs.Counts.{IsNode, waiting_total};
 ghost use Rattle.mq_events.specs.States.{IsKept, IsServed};
 ghost use Rattle.mq_events.specs.Events.{MayAct};
 ghost use Rattle.mq_turns.specs.Turns.{IsDue, IsUndue, TimesOut};
@@ -8,7 +9,6 @@ ghost use Rattle.mq_turns.specs.declared.telling.Turn.TheVariants as turns;
 
 use crate::parting::{leave_in, nothing_done};
 use crate::telling::{Passed, Turn, close_turn};
-use mq_base::NoMemory;
 use mq_cabled::sender_of;
 use mq_calls::Messages;
 use mq_disk::Disk;
@@ -51,7 +51,7 @@ fn waiting_end<D: Disk>(parts: &NodeParts<D>, cable: u16) -> Option<SenderEnd>
     }
 }
 
-/// A sender that waits for an answer has a timeout, in room that is there.
+/// A sender that waits for an answer has a timeout, in room that is there. It takes no memory.
 #[tactic(auto, using(crate::proofs::DueLaws::may_low))]
 fn time_out<D: Disk>(parts: &mut NodeParts<D>, end: SenderEnd)
     requires room { 0 < parts.old.room }
@@ -60,8 +60,10 @@ fn time_out<D: Disk>(parts: &mut NodeParts<D>, end: SenderEnd)
     requires may { MayAct parts.old }
     requires due { IsDue end.cable end parts.old }
     ensures kept { IsKept parts.new }
-    ensures did { TimesOut end.cable parts.old (Ok turns.Changed) parts.new }
-    ensures few { parts.new.few ≡ parts.old.few }
+    ensures did { TimesOut end.cable parts.old turns.Changed parts.new }
+    ensures spare { parts.new.spare ≡ parts.old.spare }
+    ensures waits { waiting_total parts.new.own + 1 ≡ waiting_total parts.old.own }
+    ensures served { IsServed parts.new }
 {
     let stamp = parts.stamp + 1;
     let after = timed_out(&end);
@@ -86,52 +88,48 @@ fn time_out<D: Disk>(parts: &mut NodeParts<D>, end: SenderEnd)
     );
 }
 
-/// So, where its entry's room can be had.
-#[tactic(auto, using(crate::proofs::DueLaws::room_kept, crate::proofs::DueLaws::room_served, crate::proofs::DueLaws::room_may, crate::proofs::DueLaws::room_due, crate::proofs::DueLaws::room_wanted, crate::proofs::DueLaws::room_timed, crate::proofs::DueLaws::room_few))]
-fn time_out_if<D: Disk>(parts: &mut NodeParts<D>, end: SenderEnd) -> Result<Turn, NoMemory>
-    requires kept { IsKept parts.old }
+/// So, in the room of the entry that was set aside for it. It takes no memory.
+fn time_out_aside<D: Disk>(parts: &mut NodeParts<D>, end: SenderEnd)
+    requires node { IsNode parts.old }
     requires served { IsServed parts.old }
     requires may { MayAct parts.old }
     requires due { IsDue end.cable end parts.old }
-    ensures kept { IsKept parts.new }
-    ensures did { TimesOut end.cable parts.old result parts.new }
-    ensures few { parts.new.few ≡ parts.old.few }
+    ensures node { IsNode parts.new }
+    ensures did { TimesOut end.cable parts.old turns.Changed parts.new }
+    ensures served { IsServed parts.new }
 {
-    if parts.reserve(1).is_err() {
-        return Err(NoMemory);
-    }
+    parts.draw();
     time_out(parts, end);
-    Ok(Turn::Changed)
 }
 
-/// A timeout of the sender end of a cable.
+/// A timeout of the sender end of a cable. It takes no memory.
 #[tactic(auto, using(crate::proofs::DueLaws::still_undue, crate::proofs::DueLaws::own_due, crate::proofs::DueLaws::at_cable))]
-fn timeout_at<D: Disk>(parts: &mut NodeParts<D>, cable: u16) -> Result<Turn, NoMemory>
-    requires kept { IsKept parts.old }
+fn timeout_at<D: Disk>(parts: &mut NodeParts<D>, cable: u16) -> Turn
+    requires node { IsNode parts.old }
     requires served { IsServed parts.old }
     requires may { MayAct parts.old }
-    ensures kept { IsKept parts.new }
+    ensures node { IsNode parts.new }
     ensures did { TimesOut cable parts.old result parts.new }
-    ensures few { parts.new.few ≡ parts.old.few }
+    ensures served { IsServed parts.new }
 {
     match waiting_end(parts, cable) {
-        None => Ok(Turn::Still),
-        Some(end) => time_out_if(parts, end),
+        None => Turn::Still,
+        Some(end) => {
+            time_out_aside(parts, end);
+            Turn::Changed
+        }
     }
 }
 
 /// A timeout of the sender end of a cable. Still exactly where the manager is down, the cable has no sender end here, or that waits
-/// for no answer; nothing has changed then.
+/// for no answer; nothing has changed then. It takes no memory: the turn that led to waiting set its entry aside. No trigger is due
+/// behind it.
 /// Source: distributed queuing, short retry count (this project's choice of when a timeout may come: at any moment).
-///
-/// # Errors
-///
-/// No memory for the entry; nothing has changed.
-#[tactic(auto, using(crate::proofs::CountLaws::timed_node))]
-pub fn timeout<D: Disk>(node: &mut Node<D>, cable: u16) -> Result<Turn, NoMemory>
+pub fn timeout<D: Disk>(node: &mut Node<D>, cable: u16) -> Turn
     requires served { IsServed node.old }
     requires may { MayAct node.old }
-    ensures { TimesOut cable node.old result node.new }
+    ensures did { TimesOut cable node.old result node.new }
+    ensures served { IsServed node.new }
 {
     timeout_at(&mut node.parts, cable)
 }

@@ -6,6 +6,7 @@ ghost use Rattle.mq_history.specs.declared.calls.Actor.TheVariants as actors;
 ghost use Rattle.mq_sender.specs.Table.{is_idle, sender_next};
 ghost use Rattle.mq_spec_manager.specs.Agents.{IsUp, stock};
 ghost use Rattle.mq_wires.specs.Wires.{Sees};
+ghost use Rattle.mq_events.specs.Counts.{IsNode};
 ghost use Rattle.mq_events.specs.Events.{MayAct};
 ghost use Rattle.mq_events.specs.States.{IsKept, IsServed};
 ghost use Rattle.mq_turns.specs.Acting.{Acts, SendsTurn};
@@ -234,6 +235,27 @@ fn turn_at<D: Disk, W: Wire>(
     }
 }
 
+/// So, where an entry is set aside for each end of a channel: whichever senders wait for an answer then, a timeout of each has its room.
+fn turn_aside<D: Disk, W: Wire>(
+    parts: &mut NodeParts<D>,
+    offers: &mut Offers,
+    wire: &mut W,
+    cable: u16,
+) -> Result<Turn, NoMemory>
+    requires node { IsNode parts.old }
+    requires served { IsServed parts.old }
+    requires may { MayAct parts.old }
+    requires low { W.low wire.old }
+    requires count { offers.old.number < 2 ^ 48 }
+    ensures node { IsNode parts.new }
+    ensures turn { EndTurn (actors.Sender cable) (λ xs. W.reads wire.old xs wire.new) (λ xs. W.writes wire.old xs wire.new) ((m : W) × W.was_empty wire.old m × W.reads m [] wire.new) (W.was_full wire.old wire.new) offers.old offers.new parts.old result parts.new }
+{
+    match parts.set_aside() {
+        Err(NoMemory) => Err(NoMemory),
+        Ok(()) => turn_at(parts, offers, wire, cable),
+    }
+}
+
 /// A turn of the sender end of a cable, as one event: the first line of its table that applies, where an item waits on its wire or none
 /// does. The item that waits is taken; else the line is one of the end's own: a session is hardened, BIND is offered, expired rows go, a
 /// batch is held and its messages and END are offered one by one, or the batch is prepared. Still exactly where the manager is down, the
@@ -256,5 +278,5 @@ pub fn sender_turn<D: Disk, W: Wire>(
     requires count { offers.old.number < 2 ^ 48 }
     ensures { EndTurn (actors.Sender cable) (λ xs. W.reads wire.old xs wire.new) (λ xs. W.writes wire.old xs wire.new) ((m : W) × W.was_empty wire.old m × W.reads m [] wire.new) (W.was_full wire.old wire.new) offers.old offers.new node.old result node.new }
 {
-    turn_at(&mut node.parts, offers, wire, cable)
+    turn_aside(&mut node.parts, offers, wire, cable)
 }

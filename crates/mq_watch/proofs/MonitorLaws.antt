@@ -25,7 +25,7 @@ use Rattle.mq_events.specs.States.{NodeState, IsKept, entry_of, finished, node_i
 use Rattle.mq_events.specs.Counts.{IsNode, KeepsCounts}
 use Rattle.mq_events.specs.Events.{Adds, MayAct, Stays}
 use Rattle.mq_events.proofs.StepLaws.{Asked, Roomed, ends_from, roomed_asked, room_same, stamp_same}
-use Rattle.mq_events.proofs.CountLaws.{counted_more, counted_still}
+use Rattle.mq_events.proofs.CountLaws.{aside_kept, counted_more, counted_still}
 use Rattle.mq_events.proofs.RiseLaws.{risen_more, risen_still}
 use Rattle.mq_watch.specs.declared.getting.Monitored.{Monitored}
 use Rattle.mq_watch.specs.declared.getting.Monitored.TheVariants as monitors
@@ -251,10 +251,10 @@ next_counted None call e = absurd cc
 next_counted (Some m) call e = call_counted m.connection m.handle call e
 
 got_counted : (k : ℕ) (begun : Option ℕ) (s t : NodeState) → IsNode s → IsKept t → KeepsCounts s t → Gets k begun s t → IsNode t
-got_counted k begun s t n l c h = record { kept = l; counted = counted_more (actors.Monitor k) h.call h.entry s t n.kept l (next_counted (monitor_in k s.own.monitors) h.call h.next) n.counted c h.adds; risen = risen_more (actors.Monitor k) h.call h.entry s t n.risen h.adds }
+got_counted k begun s t n l c h = record { kept = l; counted = counted_more (actors.Monitor k) h.call h.entry s t n.kept l (next_counted (monitor_in k s.own.monitors) h.call h.next) n.counted c h.adds; risen = risen_more (actors.Monitor k) h.call h.entry s t n.risen h.adds; aside = aside_kept s t n.aside c }
 
 pub turned_node : (k : ℕ) (s : NodeState) (r : Result Monitored Want) (t : NodeState) → IsNode s → IsKept t → KeepsCounts s t → Turns k s r t → IsNode t
-turned_node k s (Ok monitors.Idle) t n l c h = record { kept = l; counted = counted_still s t n.counted c h.stays; risen = risen_still s t n.risen h.stays }
+turned_node k s (Ok monitors.Idle) t n l c h = record { kept = l; counted = counted_still s t n.counted c h.stays; risen = risen_still s t n.risen h.stays; aside = aside_kept s t n.aside c }
 turned_node k s (Ok (monitors.Started script)) t n l c h = got_counted k (Some script) s t n l c h
 turned_node k s (Ok monitors.Got) t n l c h = got_counted k None s t n l c h
-turned_node k s (Err e) t n l c h = record { kept = l; counted = counted_still s t n.counted c h; risen = risen_still s t n.risen h }
+turned_node k s (Err e) t n l c h = record { kept = l; counted = counted_still s t n.counted c h; risen = risen_still s t n.risen h; aside = aside_kept s t n.aside c }

@@ -22,7 +22,7 @@ use Rattle.mq_spec_node.specs.Terms.{Entry}
 use Rattle.mq_spec_node.specs.Words.{Node, Own, Surroundings, after, begun_anew, is_receiver, is_sender, node_of, opening_node, trigger_deed, trigger_deed_of}
 use Rattle.mq_spec_network.specs.Given.{log_max_or, own_at, surroundings}
 use Rattle.mq_core.specs.Values.{CoreValue}
-use Rattle.mq_events.specs.States.{NodeState}
+use Rattle.mq_events.specs.States.{NodeState, Spare}
 use Rattle.mq_events.proofs.MarkLaws.{begun_kept}
 use Rattle.mq_world_begin.specs.Rested.{IsRestedAt, as_given}
 use Rattle.mq_world_begin.proofs.GivenLaws.{given_again}
@@ -92,11 +92,11 @@ opening_served : (g : Surroundings) (h : History) → trigger_deed (opening_node
 opening_served g h = ap (λ (o : Option LocalQueue). trigger_deed_of o (opening_node g h)) (none_due_in (locals_of h.opening.definitions) h.opening.shelves (opening_node g h).manager refl)
 
 -- A node starts so.
-pub starts_at : (s : Scenario) (m : ℕ) (l : ManagerLine) (v : CoreValue) (own : Own) (h : History) (room marks : ℕ) (few : Bool) → (hs : List History) → slice_get hs m ≡ Some h → slice_get s.managers m ≡ Some l → IsRestedAt s m v own h → h.entries ≡ [] → h.marks ≡ [] → length s.steps ≤ marks
-    → StartsAt s hs m (begun_state l.log_max v (as_given own) (own_begun v own) h room marks few)
-starts_at s m l v own h room marks few hs found is r none unmarked enough =
+pub starts_at : (s : Scenario) (m : ℕ) (l : ManagerLine) (v : CoreValue) (own : Own) (h : History) (room marks : ℕ) (spare : Spare) → (hs : List History) → slice_get hs m ≡ Some h → slice_get s.managers m ≡ Some l → IsRestedAt s m v own h → h.entries ≡ [] → h.marks ≡ [] → length s.steps ≤ marks
+    → StartsAt s hs m (begun_state l.log_max v (as_given own) (own_begun v own) h room marks spare)
+starts_at s m l v own h room marks spare hs found is r none unmarked enough =
     let first : Own = as_given own in
-    let n : NodeState = begun_state l.log_max v first (own_begun v own) h room marks few in
+    let n : NodeState = begun_state l.log_max v first (own_begun v own) h room marks spare in
     let given : around l.log_max first h ≡ surroundings s m = around_is s m l v own first h is r (as_first s m v own h r none) in
     let opens : node_of v.plain (own_begun v own) ≡ opening_node (around l.log_max first h) h = opens_so s m l v own h is r none in
     record {
@@ -145,28 +145,28 @@ all_front P xs ys x is all =
     last_there (y ∷ ys) z = last_there ys z
 
 -- What a node begins as.
-abbrev pub made : ℕ → CoreValue → Own → Own → History → List Entry → List Mark → ℕ → ℕ → Bool → NodeState
-made log_max v own first h entries marks room more few = record {
+abbrev pub made : ℕ → CoreValue → Own → Own → History → List Entry → List Mark → ℕ → ℕ → Spare → NodeState
+made log_max v own first h entries marks room more spare = record {
   given = record { given = record { number = h.number; name = h.name; log_max = log_max }; own = first };
   history = record h { entries = entries; marks = marks };
   manager = v;
   own = own;
   stamp = 0;
-  few = few;
+  spare = spare;
   room = room;
   marks = more;
 }
 
 pub made_so : (log_max : ℕ) (v : CoreValue) (own first begun given : Own) (h : History) (entries : List Entry) (marks : List Mark) (room more : ℕ) (n : NodeState) → h.entries ≡ [] → h.marks ≡ [] → entries ≡ [] → marks ≡ [] → own ≡ begun → first ≡ given
-    → n ≡ made log_max v own first h entries marks room more n.few → n ≡ begun_state log_max v given begun h n.room n.marks n.few
+    → n ≡ made log_max v own first h entries marks room more n.spare → n ≡ begun_state log_max v given begun h n.room n.marks n.spare
 made_so log_max v own first begun given h entries marks room more n undone unmarked none no_marks begins gives is =
     is
-    ∙ ap (λ (x : Own). made log_max v x first h entries marks room more n.few) begins
-    ∙ ap (λ (x : Own). made log_max v begun x h entries marks room more n.few) gives
-    ∙ ap (λ (xs : List Entry). made log_max v begun given h xs marks room more n.few) (none ∙ sym undone)
-    ∙ ap (λ (xs : List Mark). made log_max v begun given h h.entries xs room more n.few) (no_marks ∙ sym unmarked)
-    ∙ ap (λ (k : ℕ). begun_state log_max v given begun h k more n.few) (sym (ap (λ (x : NodeState). x.room) is))
-    ∙ ap (λ (k : ℕ). begun_state log_max v given begun h n.room k n.few) (sym (ap (λ (x : NodeState). x.marks) is))
+    ∙ ap (λ (x : Own). made log_max v x first h entries marks room more n.spare) begins
+    ∙ ap (λ (x : Own). made log_max v begun x h entries marks room more n.spare) gives
+    ∙ ap (λ (xs : List Entry). made log_max v begun given h xs marks room more n.spare) (none ∙ sym undone)
+    ∙ ap (λ (xs : List Mark). made log_max v begun given h h.entries xs room more n.spare) (no_marks ∙ sym unmarked)
+    ∙ ap (λ (k : ℕ). begun_state log_max v given begun h k more n.spare) (sym (ap (λ (x : NodeState). x.room) is))
+    ∙ ap (λ (k : ℕ). begun_state log_max v given begun h n.room k n.spare) (sym (ap (λ (x : NodeState). x.marks) is))
 
 -- What the type of a network keeps, at its start; and what is seen of it.
 map_is : {A B : Type 0} (f : A → B) (xs : List A) (ys : List B) → length xs ≡ length ys → ((m : ℕ) (x : A) → slice_get xs m ≡ Some x → slice_get ys m ≡ Some (f x)) → map f xs ≡ ys

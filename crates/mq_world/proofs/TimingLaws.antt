@@ -1,8 +1,7 @@
 -- A sender's timeout in the network: an event of its node, which leaves what lies on the cables.
-use Rattle.std.proofs.Common.{◌≡◌, ◌+◌, ℕ, Bool, true, false, List, ◌∷◌, ◌++◌, refl, sym, ap, subst, ◌∙◌, inl, inr}
-use Rattle.std.specs.Prelude.{Option, Some, None, Result, Ok, Err, IfOk, slice_get}
+use Rattle.std.proofs.Common.{◌≡◌, ◌+◌, ℕ, Bool, true, false, List, [], ◌∷◌, ◌++◌, refl, sym, ap, subst, ◌∙◌, inl, inr}
+use Rattle.std.specs.Prelude.{Option, Some, None, Result, Ok, Err, slice_get}
 use Rattle.std.proofs.lemmas.Option.{slice_get_within}
-use Rattle.mq_base.specs.declared.want.NoMemory.{NoMemory as Want}
 use Rattle.mq_frame.specs.declared.frame.Frame.{Frame}
 use Rattle.mq_frame.specs.declared.frame.Seen.TheVariants as items
 use Rattle.mq_history.specs.declared.calls.Actor.TheVariants as actors
@@ -10,29 +9,29 @@ use Rattle.mq_history.specs.declared.calls.Call.TheVariants as calls
 use Rattle.mq_history.specs.declared.history.History.{History}
 use Rattle.mq_history.specs.declared.scenario.CableLine.{CableLine}
 use Rattle.mq_spec_node.specs.Terms.{Entry}
-use Rattle.mq_spec_node.specs.Words.{Deed, Node, Surroundings, deed_of, is_receiver, is_sender, opening_node, stamp_after}
+use Rattle.mq_spec_node.specs.Words.{Deed, Node, Surroundings, is_receiver, is_sender, is_spent, opening_node, stamp_after}
 use Rattle.mq_spec_node.specs.Replays.{Follows, Tells, after}
 use Rattle.mq_spec_network.specs.Steps.{TakesTurn, popped_by, pushed_of, turn_in}
 use Rattle.mq_spec_network.specs.Story.{entries_at}
 use Rattle.mq_spec_network.specs.Tasks.Slot.{TimesOut as OutOfTime}
 use Rattle.mq_spec_network.specs.Turns.{changes, deed_at, extras_of, node_at, out_way}
-use Rattle.mq_events.specs.States.{NodeState, IsKept, node_in}
+use Rattle.mq_events.specs.States.{NodeState, IsKept, IsServed, node_in, value_of}
 use Rattle.mq_events.specs.Events.{Adds, Stays}
 use Rattle.mq_nodes.specs.declared.nodes.Stop.{Stop}
 use Rattle.mq_nodes.specs.declared.nodes.Stop.TheVariants as stops
 use Rattle.mq_nodes.specs.Course.{Ready}
 use Rattle.mq_nodes.specs.Pumps.{IsStill, TurnIn}
-use Rattle.mq_nodes.specs.Told.{DoesOrNot}
+use Rattle.mq_nodes.specs.Told.{DoesOrNot, NeverWants}
 use Rattle.mq_turns.specs.declared.telling.Turn.TheVariants as turns
 use Rattle.mq_turns.specs.Turns.{TimeoutIs, TimesOut}
 use Rattle.mq_world.specs.Ends.{TimeoutOn}
-use Rattle.mq_world.specs.Settling.{IsOf, NodeDid, Settles}
+use Rattle.mq_world.specs.Settling.{IsOf, NodeDid, ended}
 use Rattle.mq_world.specs.Worlds.{IsNetwork, NetState, course_in, histories_in, with_node}
 use Rattle.mq_world.proofs.IdleLaws.{cable_line, cable_there}
 use Rattle.mq_world.proofs.KeepLaws.{cable_again, did_silent, network_stays, network_turned}
 use Rattle.mq_world.proofs.LiftLaws.{Asked, asked_at, did_lifts, ready_set, seen_at, spent_lifts, stays_lifts}
 use Rattle.mq_world.proofs.ListLaws.{some_is, there}
-use Rattle.mq_world.proofs.NodeLaws.{broke_then, did_then, stays_so}
+use Rattle.mq_world.proofs.NodeLaws.{stays_so}
 use Rattle.mq_shared.proofs.QuietLaws.{quiet_behind}
 use Rattle.mq_world.proofs.QuietLaws.{joined_quiet}
 use Rattle.mq_world.proofs.TimeLaws.{IsTimeout, tells_at, timeout_changes, timeout_here, timeout_pushes, timeout_silent, timeout_still, timeout_told as entry_told}
@@ -41,32 +40,33 @@ use Rattle.mq_world.proofs.TimeLaws.{IsTimeout, tells_at, timeout_changes, timeo
 abbrev IsTime : ℕ → Entry → Type 0
 IsTime k e = IsOf (actors.Sender k) calls.Timeout e
 
-none_by : (k : ℕ) (d : Option Deed) (old new : NodeState) (e : Want) → TimeoutIs k d old (Err e) new → Stays old new
-none_by k None old new e h = h
-none_by k (Some d) old new e h = h
-
-pub none_timed : (k m : ℕ) (old new : NodeState) (e : Want) → TimesOut k old (Err e) new → TimeoutOn k m old (Err stops.NoMemory) new
-none_timed k m old new e h = inl (stays_so old new (none_by k (deed_of (old.stamp + 1) (actors.Sender k) calls.Timeout items.Nothing (node_in old)) old new e h))
-
-still_by : (k : ℕ) (d : Option Deed) (old new : NodeState) → TimeoutIs k d old (Ok turns.Still) new → Stays old new × (d ≡ None)
+still_by : (k : ℕ) (d : Option Deed) (old new : NodeState) → TimeoutIs k d old turns.Still new → Stays old new × (d ≡ None)
 still_by k None old new h = (h, refl)
 still_by k (Some d) old new h = absurd h
 
-pub still_timed : (k m : ℕ) (old new : NodeState) → TimesOut k old (Ok turns.Still) new → TimeoutOn k m old (Ok false) new
+pub still_timed : (k m : ℕ) (old new : NodeState) → TimesOut k old turns.Still new → TimeoutOn k m old (Ok false) new
 still_timed k m old new h = let s = still_by k _ old new h in (stays_so old new s.0, s.1)
 
-timed_by : (k : ℕ) (d : Option Deed) (old new : NodeState) → TimeoutIs k d old (Ok turns.Changed) new → (e : Entry) × Adds (actors.Sender k) calls.Timeout e old new
+timed_by : (k : ℕ) (d : Option Deed) (old new : NodeState) → TimeoutIs k d old turns.Changed new → (e : Entry) × Adds (actors.Sender k) calls.Timeout e old new
 timed_by k None old new h = absurd h
 timed_by k (Some d) old new h = h
 
-pub timed_then : (k m : ℕ) (old mid new : NodeState) (r : Result Bool Stop) → TimesOut k old (Ok turns.Changed) mid → Settles m mid r new → IfOk r (λ (x : Bool). x ≡ true) → TimeoutOn k m old r new
-timed_then k m old mid new (Ok true) h s is =
-    let d = timed_by k _ old mid h in
-    (did_then (IsTime k) (actors.Sender k) calls.Timeout d.0 m old mid new (Ok true) (d.1.actor, d.1.call) d.1 s, s.ends.0, s.ends.1)
-timed_then k m old mid new (Ok false) h s is = absurd cc
-timed_then k m old mid new (Err stop) h s is =
-    let d = timed_by k _ old mid h in
-    broke_then Bool (IsTime k) m old new stop (did_then {T = Bool} (IsTime k) (actors.Sender k) calls.Timeout d.0 m old mid new (Err stop) (d.1.actor, d.1.call) d.1 s) s.ends
+pub timed_then : (k m : ℕ) (old new : NodeState) (done : Unit {0}) (spent : Bool) (r : Result Bool Stop) → TimesOut k old turns.Changed new → IsServed new → IsKept new → spent ≡ is_spent (value_of new) → r ≡ ended m true (Ok done) spent → TimeoutOn k m old r new
+timed_then k m old new done spent r h served keeps is e = subst (λ (x : Result Bool Stop). TimeoutOn k m old x new) (sym e) (by_spent spent is)
+  where
+    did : NodeDid (IsTime k) old new
+    did =
+        let d = timed_by k _ old new h in
+        record { entry = d.0; behind = []; fits = (d.1.actor, d.1.call); triggers = tt; grows = d.1.grows; marks = d.1.marks; keeps = keeps }
+
+    by_spent : (b : Bool) → b ≡ is_spent (value_of new) → TimeoutOn k m old (ended m true (Ok done) b) new
+    by_spent true same = (refl, did, sym same)
+    by_spent false same = (did, served, sym same)
+
+pub never_wants : (k m : ℕ) (old new : NodeState) (r : Result Bool Stop) → TimeoutOn k m old r new → NeverWants r
+never_wants k m old new (Ok x) h = tt
+never_wants k m old new (Err stops.NoMemory) h = h
+never_wants k m old new (Err (stops.Spent j)) h = tt
 
 -- WHAT ITS ENTRY TELLS
 pub did_tells : (P : Entry → Type 0) (n new : NodeState) → IsKept n → (d : NodeDid P n new) → Tells (node_in n) n.stamp d.entry
@@ -109,8 +109,7 @@ timeout_did w m k l n new h known line d =
 timeout_keeps : (w : NetState) (m k : ℕ) (l : CableLine) (r : Result Bool Stop) (n new : NodeState) → IsNetwork w → slice_get w.nodes m ≡ Some n → slice_get w.scenario.cables k ≡ Some l → TimeoutOn k m n r new → IsNetwork (with_node m new w)
 timeout_keeps w m k l (Ok true) n new h known line (d, served, may) = timeout_did w m k l n new h known line d
 timeout_keeps w m k l (Ok false) n new h known line (s, none) = network_stays w m n new h known s
-timeout_keeps w m k l (Err stops.NoMemory) n new h known line (inl s) = network_stays w m n new h known s
-timeout_keeps w m k l (Err stops.NoMemory) n new h known line (inr d) = timeout_did w m k l n new h known line d
+timeout_keeps w m k l (Err stops.NoMemory) n new h known line x = absurd x
 timeout_keeps w m k l (Err (stops.Spent j)) n new h known line (is, d, spent) = timeout_did w m k l n new h known line d
 
 -- The entry is that of the turn that its definition takes.
@@ -144,8 +143,7 @@ module _ (w : NetState) (m k : ℕ) (l : CableLine) (n : NodeState) (h : IsNetwo
     ready_set w.scenario w.nodes m n new h.nodes after.nodes known ready served may,
   )
   timeout_lifts (Ok false) new after ready (s, none) = (stays_lifts w m n new known s, timeout_rests none)
-  timeout_lifts (Err stops.NoMemory) new after ready (inl s) = inl (stays_lifts w m n new known s)
-  timeout_lifts (Err stops.NoMemory) new after ready (inr d) = inr (did_lifts w m (IsTimeout k (node_in n)) Takes n new known timeout_fits (more new d))
+  timeout_lifts (Err stops.NoMemory) new after ready x = absurd x
   timeout_lifts (Err (stops.Spent j)) new after ready (is, d, spent) = (
     did_lifts w m (IsTimeout k (node_in n)) Takes n new known timeout_fits (more new d),
     spent_lifts w.scenario w.nodes m j (IsTime k) n new known d is spent,

@@ -15,7 +15,7 @@ use Rattle.mq_turns.specs.declared.telling.Turn.{Turn}
 use Rattle.mq_turns.specs.Unseen.{EndTurn, IsUnseen, turn_deed}
 use Rattle.mq_turns.specs.Wired.{IsStill, Offered, Popped}
 use Rattle.mq_ways.specs.Ways.{CableState, WayState}
-use Rattle.mq_world.specs.Settling.{IsOf, NodeBroke, NodeDid, NodeStays}
+use Rattle.mq_world.specs.Settling.{IsOf, NodeDid, NodeStays}
 
 -- these items were taken from a direction
 abbrev pub Reads : WayState → WayState → List Item → Type 0
@@ -69,8 +69,9 @@ EndOn who m a b old (Ok true) new = NodeDid (Passes who a b old) old new × IsSe
 EndOn who m a b old (Ok false) new = NodeStays old new × (b ≡ a) × StaysStill who a b old
 EndOn who m a b old (Err stop) new = EndBroke who m a b stop old new
 
--- A timeout of a sender's end.
+-- A timeout of a sender's end: it never wants memory.
 abbrev pub TimeoutOn : ℕ → ℕ → NodeState → Result Bool Stop → NodeState → Type 0
 TimeoutOn cable m old (Ok true) new = NodeDid (IsOf (actors.Sender cable) calls.Timeout) old new × IsServed new × MayAct new
 TimeoutOn cable m old (Ok false) new = NodeStays old new × (deed_of (old.stamp + 1) (actors.Sender cable) calls.Timeout items.Nothing (node_in old) ≡ None)
-TimeoutOn cable m old (Err stop) new = NodeBroke (IsOf (actors.Sender cable) calls.Timeout) m stop old new
+TimeoutOn cable m old (Err stops.NoMemory) new = ⊥
+TimeoutOn cable m old (Err (stops.Spent k)) new = (k ≡ m) × NodeDid (IsOf (actors.Sender cable) calls.Timeout) old new × (is_spent (value_of new) ≡ true)

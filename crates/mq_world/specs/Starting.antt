@@ -1,11 +1,11 @@
 -- A node of which nothing has happened, in a network that starts.
-use Rattle.std.specs.Prelude.{◌≡◌, ◌+◌, ◌≤◌, ℕ, Bool, List, [], None, Some, slice_get, vec_len, vec_capacity}
+use Rattle.std.specs.Prelude.{◌≡◌, ◌+◌, ◌≤◌, ℕ, List, [], None, Some, slice_get, vec_len, vec_capacity}
 use Rattle.std.proofs.Common.{Global, Vec}
 use Rattle.mq_history.specs.declared.history.History.{History}
 use Rattle.mq_history.specs.declared.scenario.Scenario.{Scenario}
 use Rattle.mq_spec_node.specs.Words.{Own, Surroundings, begun_anew}
 use Rattle.mq_core.specs.Values.{CoreValue}
-use Rattle.mq_events.specs.States.{NodeState, IsServed}
+use Rattle.mq_events.specs.States.{NodeState, IsServed, Spare}
 use Rattle.mq_events.specs.Events.{MayAct}
 use Rattle.mq_history.specs.declared.history.Mark.{Mark}
 use Rattle.mq_spec_node.specs.Words.{fresh}
@@ -20,8 +20,8 @@ abbrev pub around : ℕ → Own → History → Surroundings
 around log_max own h = record { given = record { number = h.number; name = h.name; log_max = log_max }; own = own }
 
 -- what is its own, as the scenario gives it and as it begins
-abbrev pub begun_state : ℕ → CoreValue → (first own : Own) → History → ℕ → ℕ → Bool → NodeState
-begun_state log_max v first own h room marks few = record { given = around log_max first h; history = h; manager = v; own = own; stamp = 0; few = few; room = room; marks = marks }
+abbrev pub begun_state : ℕ → CoreValue → (first own : Own) → History → ℕ → ℕ → Spare → NodeState
+begun_state log_max v first own h room marks spare = record { given = around log_max first h; history = h; manager = v; own = own; stamp = 0; spare = spare; room = room; marks = marks }
 
 -- the channels' ends begin with what is hardened
 abbrev pub own_begun : CoreValue → Own → Own

@@ -12,7 +12,7 @@ pub use Rattle.mq_nodes.specs.Carried.{AllCarried}
 pub use Rattle.mq_nodes.specs.Course.{Ready, Rests, noted}
 pub use Rattle.mq_nodes.specs.Pumps.{AllStill, TurnIn}
 pub use Rattle.mq_nodes.specs.Texts.{AllFit}
-pub use Rattle.mq_nodes.specs.Told.{Does, HandlerTold, LineTold, Part, PhaseTold, Says, TurnTold, later}
+pub use Rattle.mq_nodes.specs.Told.{Does, HandlerTold, LineTold, NeverWants, Part, PhaseTold, Says, TurnTold, later}
 pub use Rattle.mq_spec_network.specs.Lawful.{AreOwn, handles_idle}
 pub use Rattle.mq_spec_network.specs.Steps.{Is, is_cut, is_watching}
 pub use Rattle.mq_spec_network.specs.Tasks.{moment_of, watch_by}

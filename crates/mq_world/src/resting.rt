@@ -77,7 +77,7 @@ fn rest_node<D: Disk>(node: Node<D>) -> NodeRest<D>
             opening: image,
             length,
             moment,
-            entries: Items::from_vec(entries),
+            entries: Items::from_vec(entries.into_vec()),
             marks: Items::from_vec(marks),
         },
     }

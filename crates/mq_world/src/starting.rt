@@ -8,7 +8,7 @@ use crate::cabling::{Cabling, cabling_of};
 use mq_acts::begin;
 use mq_base::{Items, NoMemory};
 use mq_disk::Disk;
-use mq_events::{Node, NodeParts, Opening};
+use mq_events::{Entries, Node, NodeParts, Opening};
 use mq_history::{CableLine, History, Mark, MonitorLine, RulesPart, Scenario};
 use mq_manager::Manager;
 use mq_own::Own;
@@ -55,7 +55,7 @@ fn begun_node<D: Disk>(
     requires marks { history.marks ≡ [] }
     requires none { marks.items ≡ [] }
     requires opens { words.node_of manager.plain (words.own_begun manager own) ≡ words.opening_node (words.around log_max (words.as_given own) history) history }
-    ensures same { result ≡ words.begun_state log_max manager (words.as_given own) (words.own_begun manager own) history result.room result.marks result.few }
+    ensures same { result ≡ words.begun_state log_max manager (words.as_given own) (words.own_begun manager own) history result.room result.marks result.spare }
     ensures room { result.marks ≡ vec_capacity marks - vec_len marks }
 {
     let History {
@@ -70,7 +70,7 @@ fn begun_node<D: Disk>(
     rewind(&mut own);
     let first = Snapshot::of(&own);
     begin(&mut own, &manager);
-    let entries = Vec::new(alloc);
+    let entries = Entries::new(alloc);
     Node::new(NodeParts {
         alloc,
         manager,

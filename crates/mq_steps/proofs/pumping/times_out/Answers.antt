@@ -14,4 +14,4 @@ returns-clause-counted g c =
     let old = g.N.Nodes.course c.args.nodes.now in
     let new = g.N.Nodes.course c.timeout.new.self in
     subst (λ (r : Result ℕ Halt). Counts c.args.left r old new) (sym c.left_after.ensures)
-    (turn_counted TimesOut c.args.cable c.args.left c.timeout.result old new (any_left c.args.left c.if-left-eq0.false) c.requires.there c.timeout.ensures)
+    (turn_counted TimesOut c.args.cable c.args.left c.timeout.result old new (any_left c.args.left c.if-left-eq0.false) c.requires.there c.timeout.ensures.told)

@@ -15,8 +15,8 @@ new-requires-clause-opens g c =
 
 pub returns-clause-same : goal.returns-clause-same
 returns-clause-same g c =
-    made_so c.args.log_max c.args.manager c.begin.new.own c.of-first.result.value (own_begun c.args.manager c.args.own) (as_given c.args.own) c.args.history c.new-entries.result.items c.args.marks.items (vec_capacity c.new-entries.result - vec_len c.new-entries.result)
-    (vec_capacity c.args.marks - vec_len c.args.marks) c.new.result c.requires.entries c.requires.marks c.new-entries.ensures.items c.requires.none (c.begin.ensures ∙ ap (λ (own : Own). (begun_anew c.args.manager.plain own).own) c.rewind.ensures) (c.of-first.ensures ∙ c.rewind.ensures) c.new.ensures
+    made_so c.args.log_max c.args.manager c.begin.new.own c.of-first.result.value (own_begun c.args.manager c.args.own) (as_given c.args.own) c.args.history c.new-entries.result.list c.args.marks.items c.new-entries.result.room
+    (vec_capacity c.args.marks - vec_len c.args.marks) c.new.result c.requires.entries c.requires.marks c.new-entries.ensures.none c.requires.none (c.begin.ensures ∙ ap (λ (own : Own). (begun_anew c.args.manager.plain own).own) c.rewind.ensures) (c.of-first.ensures ∙ c.rewind.ensures) c.new.ensures
 
 pub returns-clause-room : goal.returns-clause-room
 returns-clause-room g c = ap (λ (n : NodeState). n.marks) c.new.ensures

@@ -74,7 +74,7 @@ loop-line-preserved g c =
     sym (ap (λ (xs : List ManagerLine). slice_get xs c.loop-line.line-index) c.as_slice-line-items.ensures) ∙ slice_get_read _ _ _ _ refl c.loop-line-test.true c.line-item.is in
     let started : StartsAt c.args.scenario.now c.args.histories.items c.loop-line.line-index c.begun_node-node.result =
     subst (λ (n : NodeState). StartsAt c.args.scenario.now c.args.histories.items c.loop-line.line-index n) (sym c.begun_node-node.ensures.same)
-    (starts_at c.args.scenario.now c.loop-line.line-index c.line-item.result c.taken-manager.result c.taken-own.result c.taken-history.result c.begun_node-node.result.room c.begun_node-node.result.marks c.begun_node-node.result.few c.args.histories.items h.0 line
+    (starts_at c.args.scenario.now c.loop-line.line-index c.line-item.result c.taken-manager.result c.taken-own.result c.taken-history.result c.begun_node-node.result.room c.begun_node-node.result.marks c.begun_node-node.result.spare c.args.histories.items h.0 line
     (c.requires.rested.each c.loop-line.line-index c.taken-manager.result c.taken-own.result c.taken-history.result v.0 o.0 h.0)
     (c.requires.fresh.undone c.loop-line.line-index c.taken-history.result h.0) (c.requires.fresh.unmarked c.loop-line.line-index c.taken-history.result h.0)
     (omega (arith, front.1.1, c.begun_node-node.ensures.room))) in

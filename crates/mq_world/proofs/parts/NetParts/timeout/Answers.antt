@@ -4,7 +4,7 @@ use Rattle.mq_spec_network.specs.Tasks.Slot.{TimesOut}
 use Rattle.mq_world.specs.Worlds.{NetState, with_node}
 use Rattle.mq_world.proofs.IdleLaws.{line_there, sender_there}
 use Rattle.mq_world.proofs.LiftLaws.{asked, asked_ready}
-use Rattle.mq_world.proofs.TimingLaws.{timeout_kept, timeout_told}
+use Rattle.mq_world.proofs.TimingLaws.{never_wants, timeout_kept, timeout_told}
 use Rattle.mq_world.proofs.OwnLaws.{turn_own}
 use Rattle.mq_world.proofs.parts.NetParts.timeout.Goals as goal
 
@@ -29,6 +29,9 @@ returns-clause-kept g c = timeout_kept c.args.self.now _ c.from.result c.args.ca
 
 pub returns-clause-told : goal.returns-clause-told
 returns-clause-told g c = timeout_told c.args.self.now _ c.from.result c.args.cable c.line_at.result.now c.timeout_on.result c.at_mut.result.now c.timeout_on.new.node (asked c.self.view_is c.requires.kept c.requires.ready c.from.ensures c.at_mut.ensures.value) (ap (with_node c.from.result c.timeout_on.new.node) c.self.view_is) (ap (λ (w : NetState). slice_get w.lines c.args.cable) (sym c.self.view_is) ∙ c.line_at.ensures) c.timeout_on.ensures
+
+pub returns-clause-room : goal.returns-clause-room
+returns-clause-room g c = never_wants c.args.cable c.line_at.result.now.sender c.at_mut.result.now c.timeout_on.new.node c.timeout_on.result c.timeout_on.ensures
 
 pub returns-clause-own : goal.returns-clause-own
 returns-clause-own g c = λ is. turn_own c.args.self.now _ TimesOut c.args.cable c.timeout_on.result (returns-clause-kept g c) c.requires.there (returns-clause-told g c)
