@@ -40,8 +40,6 @@ turn_own none full a b old new (Ok turns.Still) kept x = stayed_own old new x.st
 turn_own none full a b old new (Err e) kept (inl x) = stayed_own old new x.stayed
 turn_own none full a b old new (Err e) kept (inr x) = made_own _ calls.Turn old new tt kept x.made
 
-pub time_own : (cable : ℕ) (old new : NodeState) (r : Result Turn NoMemory) → IsKept new → TimeTried cable old r new → StaysOwn old.history.entries new.history.entries
-time_own cable old new (Ok turns.Changed) kept (x, done) = made_own _ calls.Timeout old new tt kept x
-time_own cable old new (Ok turns.Still) kept x = stayed_own old new x
-time_own cable old new (Err e) kept (inl x) = stayed_own old new x
-time_own cable old new (Err e) kept (inr x) = made_own _ calls.Timeout old new tt kept x
+pub time_own : (cable : ℕ) (old new : NodeState) (t : Turn) → IsKept new → TimeTried cable old t new → StaysOwn old.history.entries new.history.entries
+time_own cable old new turns.Changed kept x = made_own _ calls.Timeout old new tt kept x
+time_own cable old new turns.Still kept x = stayed_own old new x

@@ -15,12 +15,11 @@ use Rattle.std.proofs.marker.PhantomData.TheSendSync as phantom
 use Rattle.mq_base.proofs.items.Items.TheSendSync as items
 use Rattle.mq_own.proofs.own.Own.TheSendSync as own
 use Rattle.mq_own.specs.contracts.own.Own as Own
-use Rattle.mq_history.proofs.calls.Entry.TheSendSync as entry
-use Rattle.mq_history.specs.contracts.calls.Entry as Entry
 use Rattle.mq_history.proofs.history.Mark.TheSendSync as mark
 use Rattle.mq_history.specs.contracts.history.Mark as Mark
 use Rattle.mq_manager.proofs.manager.Manager.TheSendSync as manager
 use Rattle.mq_events.proofs.state.Opening.TheSendSync as opening
+use Rattle.mq_events.proofs.entries.Entries.TheSendSync as entries
 use Rattle.mq_events.specs.contracts.state.NodeParts as NodeParts
 use Rattle.mq_events.specs.contracts.state.NodeParts.TheInside as parts
 use Rattle.mq_events.specs.contracts.node.Node as Node
@@ -52,7 +51,7 @@ module _ (T : RattleType) (g : Ghosts T.Denot) (s : IsSend T) where
               (
                 opening.the_field_send,
                 (
-                  vec.the_send Entry.the_row Global.the_row allocator.ghosts entry.the_send heap.the_send frees.the_frees,
+                  entries.the_send,
                   (vec.the_send Mark.the_row Global.the_row allocator.ghosts mark.the_send heap.the_send frees.the_frees, (plain_send _ _ _ _ _, (plain_send _ _ _ _ _, tt))),
                 ),
               ),

@@ -27,7 +27,7 @@ use Rattle.mq_ruled.specs.Ends.{PipeTook, PipeWrote}
 use Rattle.mq_split.specs.Took.{EndState}
 use Rattle.mq_split.specs.Ends.{end_actor}
 use Rattle.mq_shared.specs.Held.{ScriptState}
-use Rattle.mq_shared.specs.Events.{LineMade, LineNot, Made, SameEnd, Stayed, TurnMade, TurnNot, TurnTried}
+use Rattle.mq_shared.specs.Events.{LineMade, LineNot, Made, SameEnd, Stayed, TimeTried, TurnMade, TurnNot, TurnTried}
 use Rattle.mq_shared.proofs.KeptLaws.{grows_on}
 
 pub stays_so : (old new : NodeState) → Stays old new → Stayed old new
@@ -196,17 +196,11 @@ on_ok P (Ok x) h = h
 on_ok P (Err e) h = tt
 
 -- A TIMEOUT
-pub time_made : (cable : ℕ) (d : Option Deed) (old mid new : NodeState) → TimeoutIs cable d old (Ok turns.Changed) mid → Serves mid new → Made (actors.Sender cable) calls.Timeout old new
-time_made cable None old mid new h v = absurd h
-time_made cable (Some d) old mid new h v = made_then (actors.Sender cable) calls.Timeout h.0 old mid new h.1 v
+made_alone : (who : Actor) (what : Call) (e : Entry) (old new : NodeState) → Adds who what e old new → Made who what old new
+made_alone who what e old new a = record { entry = e; behind = []; actor = a.actor; call = a.call; turns = tt; went = record { grows = a.grows; marks = a.marks } }
 
-pub time_still : (cable : ℕ) (d : Option Deed) (old new : NodeState) → TimeoutIs cable d old (Ok turns.Still) new → Stayed old new
-time_still cable None old new h = stays_so old new h
-time_still cable (Some d) old new h = absurd h
-
-pub time_none : (cable : ℕ) (d : Option Deed) (old new : NodeState) (e : Want) → TimeoutIs cable d old (Err e) new → Stayed old new
-time_none cable d old new e h = stays_so old new (by_deed d h)
-  where
-    by_deed : (o : Option Deed) → TimeoutIs cable o old (Err e) new → Stays old new
-    by_deed None x = x
-    by_deed (Some y) x = x
+pub time_tried : (cable : ℕ) (d : Option Deed) (old new : NodeState) (t : Turn) → TimeoutIs cable d old t new → TimeTried cable old t new
+time_tried cable None old new turns.Changed h = absurd h
+time_tried cable None old new turns.Still h = stays_so old new h
+time_tried cable (Some d) old new turns.Changed h = made_alone (actors.Sender cable) calls.Timeout h.0 old new h.1
+time_tried cable (Some d) old new turns.Still h = absurd h

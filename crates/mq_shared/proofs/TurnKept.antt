@@ -210,11 +210,9 @@ module _ (b : Begun) (h : Held) (new : NodeState) (k : Kept b h) (kept : IsKept 
   time_not : (wants : Bool) → Stayed h.node new → (wants ≡ false → IsDone new) → Kept b (timed wants)
   time_not wants x ready = kept_on b h k [] new h.ends h.scripts wants (stayed_went h.node new x) tt ends_still k.ends_apart refl scripts_still k.scripts_apart refl ready (λ q. k.free calm)
 
-  pub time_kept : (j : ℕ) (r : Result Turn NoMemory) → IsServed h.node → TimeTried j h.node r new → Kept b (timed (is_err r))
-  time_kept j (Ok turns.Changed) served (x, done) = time_made j false x (λ q. done)
-  time_kept j (Ok turns.Still) served x = time_not false x (λ q. inl (served_stays h.node new x served))
-  time_kept j (Err e) served (inl x) = time_not true x (λ q. absurd cc)
-  time_kept j (Err e) served (inr x) = time_made j true x (λ q. absurd cc)
+  pub time_kept : (j : ℕ) (t : Turn) → IsServed new → TimeTried j h.node t new → Kept b (timed h.wants)
+  time_kept j turns.Changed served x = time_made j h.wants x (λ q. inl served)
+  time_kept j turns.Still served x = time_not h.wants x (λ q. inl served)
 
   -- A TURN
   module _ (at : ℕ) (c d : EndState) (is : slice_get h.ends at ≡ Some c) (may : MayAct h.node) where

@@ -92,7 +92,6 @@ TurnTried none full a old (Ok turns.Still) b new = TurnNot a b old new
 TurnTried none full a old (Err e) b new = TurnNot a b old new ⊎ TurnMade none full a b old new
 
 -- a timeout
-abbrev pub TimeTried : ℕ → NodeState → Result Turn NoMemory → NodeState → Type 0
-TimeTried cable old (Ok turns.Changed) new = Made (actors.Sender cable) calls.Timeout old new × IsDone new
-TimeTried cable old (Ok turns.Still) new = Stayed old new
-TimeTried cable old (Err e) new = Stayed old new ⊎ Made (actors.Sender cable) calls.Timeout old new
+abbrev pub TimeTried : ℕ → NodeState → Turn → NodeState → Type 0
+TimeTried cable old turns.Changed new = Made (actors.Sender cable) calls.Timeout old new
+TimeTried cable old turns.Still new = Stayed old new

@@ -77,23 +77,22 @@ fn run_script<P: PhaseName, D: Disk, R: Wait, G: Gate>(
     }
 }
 
-/// The timeout of a sender that was still for long: whether there was memory.
+/// The timeout of a sender that was still for long.
 fn time_out<P: PhaseName, D: Disk, R: Wait>(
     rt: &R,
     lock: &Mutex<Locked<'_, P, D, R>>,
     sends: Option<u16>,
     still: u32,
-) -> bool {
+) {
     let Some(cable) = sends else {
-        return true;
+        return;
     };
     if still % TIMEOUT_AFTER != 0 {
-        return true;
+        return;
     }
     let mut held = lock.lock(rt);
-    let timed = held.time_out(cable);
+    let _turn = held.time_out(cable);
     MutexGuard::unlock(held);
-    timed.is_ok()
 }
 
 /// Takes turns of an end until no script's worker is left, or none changed anything for long.
@@ -116,9 +115,7 @@ fn run_end<P: PhaseName, D: Disk, R: Wait>(
             Ok(Turn::Changed) => still = 0,
             Ok(Turn::Still) => {
                 still += 1;
-                if !time_out(rt, lock, sends, still) {
-                    break;
-                }
+                time_out(rt, lock, sends, still);
                 thread::yield_now();
             }
             Err(NoMemory) => break,

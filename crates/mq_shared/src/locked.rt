@@ -135,14 +135,13 @@ impl<'a, P: PhaseName, D: Disk, R: Wait> Locked<'a, P, D, R> {
 
     #[tactic(auto, using(crate::proofs::KeptLaws::served_at))]
     /// A timeout of the sender's end of a cable. Still as well where nothing more may happen.
-    pub fn time_out(&mut self, cable: u16) -> Result<Turn, NoMemory> {
+    pub fn time_out(&mut self, cable: u16) -> Turn {
         if !may_go(self.wants, &self.node) {
-            return Ok(Turn::Still);
+            return Turn::Still;
         }
         self.node.facts();
         let turn = try_timeout(&mut self.node, cable);
         self.node.facts();
-        self.wants = turn.is_err();
         turn
     }
 

@@ -180,23 +180,13 @@ pub fn try_turn<D: Disk, R: Wait>(
     turn
 }
 
-/// A timeout of the sender's end of a cable, with the trigger turns behind it. Still where it waits for no answer.
-///
-/// # Errors
-///
-/// No memory: nothing was done, or the timeout was, and a trigger stays due.
-#[tactic(auto, using(crate::proofs::TriedLaws::time_made, crate::proofs::TriedLaws::time_still, crate::proofs::TriedLaws::time_none))]
-pub fn try_timeout<D: Disk>(node: &mut Node<D>, cable: u16) -> Result<Turn, NoMemory>
+/// A timeout of the sender's end of a cable. Still where it waits for no answer. It makes no trigger due.
+#[tactic(auto, using(crate::proofs::TriedLaws::time_tried))]
+pub fn try_timeout<D: Disk>(node: &mut Node<D>, cable: u16) -> Turn
     requires served { IsServed node.old }
     requires may { MayAct node.old }
-    ensures { TimeTried cable node.old result node.new }
+    ensures tried { TimeTried cable node.old result node.new }
+    ensures served { IsServed node.new }
 {
-    match timeout(node, cable) {
-        Err(NoMemory) => Err(NoMemory),
-        Ok(Turn::Still) => Ok(Turn::Still),
-        Ok(Turn::Changed) => match serve(node) {
-            Err(NoMemory) => Err(NoMemory),
-            Ok(()) => Ok(Turn::Changed),
-        },
-    }
+    timeout(node, cable)
 }
