@@ -148,7 +148,7 @@ use Rattle.mq_core.specs.Values.{LogBodies}
 use Rattle.mq_restart.specs.declared.reading.LogRead.{LogRead}
 
 pub data LogStands (tells : Type 0) (read : LogRead) (log : LogBodies) (p : Plain) : Type 0 where
-  pub stood : ⊥ → LogStands tells read log p
+  Stood : ⊥ → LogStands tells read log p
 ''')
 
 # mq_restarts
@@ -170,11 +170,11 @@ def law(name):
     m = re.search(r'^  pub ' + name + r' : .*\n', s, flags=re.M); return m[0].strip()
 head = ''.join(l + '\n' for l in s.split('\n') if l.startswith('use ') and 'mq_manager.proofs' not in l and 'mq_law_log' not in l)
 text = '-- cut\n' + head + '''use Rattle.mq_restart.specs.Stands.{LogStands}
-use Rattle.mq_restart.specs.Stands.LogStands.{stood}
+use Rattle.mq_restart.specs.Stands.LogStands.{Stood}
 use Rattle.mq_core.specs.Values.{LogBodies}
 
 none : {A : Type 0} (tells : Type 0) (read : LogRead) (log : LogBodies) (p : Plain) → LogStands tells read log p → A
-none tells read log p (stood e) = absurd e
+none tells read log p (Stood e) = absurd e
 
 module _ (tells : Type 0) (read : LogRead) (v new : CoreValue) (k : IsKept tells read v) (up : IsUp v.plain) where
 '''
