@@ -10,7 +10,7 @@ use Rattle.mq_core.specs.Views.{PartsValue, plain_of, frozen_of}
 use Rattle.mq_core.proofs.MeetLaws.{mode_up}
 use Rattle.mq_spec_manager.specs.Agents.{harden}
 use Rattle.mq_agents.specs.Written.{with_receivers, note_record, noted_change}
-use Rattle.mq_agents.proofs.WriteLaws.{wanted_meets, wanted_told, hardened_tied, hardened_meets, hardening_ends, hardening_told, hardened_wrote, hardened_bodies, more_aside, tied_after, receiver_hardened}
+use Rattle.mq_agents.proofs.WriteLaws.{wanted_meets, hardened_tied, hardened_meets, hardening_ends, hardening_told, hardened_wrote, hardened_bodies, more_aside, tied_after, receiver_hardened}
 use Rattle.mq_core.specs.Values.{CoreValue, manager_of, behind_record}
 use Rattle.mq_calls.specs.declared.state.ReceiverSide.{ReceiverSide}
 use Rattle.mq_core.specs.declared.parts.StoppedWrite.TheVariants as writes
@@ -150,6 +150,4 @@ returns-in-Err-aside_for-clause-meets g c =
     (ap (λ (w : CoreValue). w.plain) v) (ap (λ (w : CoreValue). w.faults) v) (c.reserve.ensures.dids ∙ ap (λ (w : CoreValue). w.delta) v) (ap (λ (w : CoreValue). w.stopped) v)
 
 pub returns-in-Err-aside_for-clause-told : goal.returns-in-Err-aside_for-clause-told
-returns-in-Err-aside_for-clause-told g c =
-    let v = c.core.view_is ∙ c.begin_call.ensures in
-    wanted_told c.args.core.now _ c.core.inside.parts c.aside_for.new.parts (harden c.args.channel.now c.args.note.now c.args.core.now.plain) c.aside_for.ensures.more (ap (λ (w : CoreValue). w.log) v) refl
+returns-in-Err-aside_for-clause-told g c = roomier_bodies c.core.inside.parts c.aside_for.new.parts c.aside_for.ensures.more ∙ ap (λ (w : CoreValue). w.log) (c.core.view_is ∙ c.begin_call.ensures)
