@@ -1,4 +1,4 @@
-use Rattle.std.proofs.Common.{◌≡◌, ◌≤◌, ◌∙◌, sym, subst, ap, arith}
+use Rattle.std.proofs.Common.{sym, subst, ap, arith}
 use Rattle.mq_core.specs.Views.{PartsValue}
 use Rattle.mq_core.specs.Ties.{EndsReady}
 use Rattle.mq_agents.proofs.WriteLaws.{aside_trans, drawn_if_aside, drawn_if_ready, drawn_if_room, rows_aside}
