@@ -1,6 +1,6 @@
 -- A unit in doubt that is settled: its rows go, or are free again.
 use Rattle.std.proofs.Common.{◌≡◌, ℕ, suc, ◌+◌, ◌<◌, ◌≤◌, Bool, true, false, List, [], ◌∷◌, length, get_or, drop, map, refl, ap, arith, add-one, drop-cons, sym, ◌∙◌}
-use Rattle.std.specs.Prelude.{Some, not, sum_by}
+use Rattle.std.specs.Prelude.{Some, None, not, sum_by}
 use Rattle.std.proofs.lemmas.List.Sums.{sum_by-cons}
 use Rattle.mq_calls.specs.Recovery.{listed}
 use Rattle.mq_calls.specs.declared.state.SenderSide.{SenderSide}
@@ -9,7 +9,7 @@ use Rattle.mq_message.specs.declared.place.Holder.TheVariants as holders
 use Rattle.mq_calls.specs.declared.agents.Note.TheVariants as notes
 use Rattle.mq_calls.specs.declared.records.LogRecord.TheVariants as records
 use Rattle.mq_calls.specs.State.{Queue as StateQueue}
-use Rattle.mq_calls.specs.Words.{Ident, Row, Luw, Plain, Part, Do, SenderData, HeldBy, selects, sender_or, sender_data, apply, apply_all}
+use Rattle.mq_calls.specs.Words.{Ident, Row, Luw, Plain, Part, Do, SenderData, data_settled, settle_by, HeldBy, selects, sender_or, sender_data, apply, apply_all}
 use Rattle.mq_calls.specs.declared.records.Remove.{Remove}
 use Rattle.mq_calls.specs.State.Change.{SetSender}
 use Rattle.mq_spec_manager.specs.Agents.{harden, held_rows, settle_change}
@@ -59,6 +59,11 @@ settled_part commit operator channel unit rows d = record {
   changes = settled_changes commit channel d;
   delta = settled_told commit operator channel unit rows;
 }
+
+-- nothing is in doubt then
+pub settled_none : (commit : Bool) (d : SenderData) → (data_settled (Some (settle_by commit)) d).in_doubt ≡ None
+settled_none true d = refl
+settled_none false d = refl
 
 -- the step
 pub settles_as : (commit operator : Bool) (channel : List ℕ) (unit : Luw) (rows : List Remove) (old : SenderData) (p : Plain) → rows ≡ held_rows (holders.Batch channel) p → old ≡ sender_or (sender_data channel p)

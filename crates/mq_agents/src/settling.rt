@@ -255,10 +255,11 @@ fn shrink_rows<D: Disk>(parts: &mut Parts<D>)
     let Some(total) = rows_total(parts.ends.senders.as_slice()) else {
         return;
     };
-    match RowRoom::with_room(parts.alloc, total) {
-        Ok(rows) => parts.ends.rows = rows,
-        Err(NoMemory) => {}
-    }
+    let rows = match RowRoom::with_room(parts.alloc, total) {
+        Ok(rows) => rows,
+        Err(NoMemory) => return,
+    };
+    parts.ends.rows = rows;
 }
 
 /// What was set aside for a unit in doubt is room of the log again. It takes no memory.

@@ -1,5 +1,5 @@
-use Rattle.std.proofs.Common.{◌≡◌, ℕ, ◌+◌, ◌≤◌, ◌<◌, ◌∙◌, true, sym, ap, subst, refl, arith}
-use Rattle.std.specs.Prelude.{List, Option, [], ◌∷◌, ◌++◌, length, Ok, Err, Some, None, find}
+use Rattle.std.proofs.Common.{◌≡◌, ℕ, ◌+◌, ◌<◌, ◌∙◌, true, sym, ap, subst, refl, arith}
+use Rattle.std.specs.Prelude.{List, Option, [], ◌∷◌, ◌++◌, length, Some, None, find}
 use Rattle.std.specs.Str.{bytes_eq}
 use Rattle.mq_calls.specs.Words.{Plain, is_up, set_receiver, receiver_in, receiver_data}
 use Rattle.mq_calls.specs.declared.deltas.Did.{Did}
@@ -9,10 +9,10 @@ use Rattle.mq_calls.specs.declared.deltas.Did.TheVariants as did
 use Rattle.mq_unit.specs.Told.{Telling}
 use Rattle.mq_sides.specs.Places.{AreByName}
 use Rattle.mq_core.specs.declared.parts.StoppedWrite.TheVariants as writes
-use Rattle.mq_core.specs.Views.{PartsValue, plain_of, frozen_of}
+use Rattle.mq_core.specs.Views.{PartsValue, frozen_of}
 use Rattle.mq_core.specs.Ties.{EndsReady, mode_is_up}
 use Rattle.mq_core.proofs.MeetLaws.{mode_up}
-use Rattle.mq_agents.specs.Written.{IsAside, drawn, is_live, live_need, with_receivers, note_record, noted_change}
+use Rattle.mq_agents.specs.Written.{IsAside, is_live, live_need, with_receivers, note_record, noted_change}
 use Rattle.mq_agents.proofs.ReadyLaws.{closing_spare, live_found, old_open, old_receiver, old_told, receiver_closed}
 use Rattle.mq_agents.proofs.WriteLaws.{aside_bodies, aside_view, drawn_aside, hardened_tied, hardened_meets, hardening_ends, hardening_told, hardened_wrote, hardened_bodies, not_wanted, receiver_hardened, tied_after, wants_none}
 use Rattle.mq_core.specs.Values.{CoreValue, manager_of, behind_record}
@@ -55,8 +55,8 @@ write_receiver-requires-clause-ends g c =
     subst (λ (q : PartsValue). EndsReady (with_receivers (set_receiver side q.ends.receivers) q.ends) q.log.spare) (sym c.draw.ensures)
     (receiver_closed side x.ends x.log.spare w (ap (λ (k : ReceiverSide). k.hardened.closed) is ∙ c.requires.closed) (omega (arith, had)))
 
-pub invariant_of-core-in-Err : goal.invariant_of-core-in-Err
-invariant_of-core-in-Err g c =
+pub invariant_of-core : goal.invariant_of-core
+invariant_of-core g c =
     let v = c.core.view_is ∙ c.begin_call.ensures in
     let plain = ap (λ (w : CoreValue). w.plain) v in
     let x : PartsValue = c.core.inside.parts in

@@ -1,4 +1,4 @@
-use Rattle.std.proofs.Common.{◌≡◌, ℕ, ◌+◌, ◌≤◌, ◌∙◌, ap, arith, sym, subst}
+use Rattle.std.proofs.Common.{◌≡◌, ℕ, ◌+◌, ◌∙◌, ap, arith, sym, subst}
 use Rattle.mq_calls.specs.Words.{set_sender}
 use Rattle.mq_sides.specs.Kept.{RowsKept}
 use Rattle.mq_core.specs.declared.parts.ChannelEnds.{ChannelEnds}

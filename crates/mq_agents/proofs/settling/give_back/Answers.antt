@@ -1,11 +1,11 @@
-use Rattle.std.proofs.Common.{◌≡◌, ◌≤◌, ◌∙◌, sym, subst, ap, arith}
+use Rattle.std.proofs.Common.{sym, subst, ap, arith}
 use Rattle.mq_core.specs.Views.{PartsValue}
 use Rattle.mq_core.specs.Ties.{EndsReady}
 use Rattle.mq_agents.proofs.WriteLaws.{aside_trans, drawn_if_aside, drawn_if_ready, drawn_if_room, rows_aside}
 use Rattle.mq_agents.proofs.settling.give_back.Goals as goal
 
 pub shrink_rows-requires : goal.shrink_rows-requires
-shrink_rows-requires g c = (drawn_if_ready c.args.had c.args.parts.now c.draw_if.new.parts c.draw_if.ensures c.requires.ready).rows
+shrink_rows-requires g c = record { rows = (drawn_if_ready c.args.had c.args.parts.now c.draw_if.new.parts c.draw_if.ensures c.requires.ready).rows }
 
 pub returns-clause-aside : goal.returns-clause-aside
 returns-clause-aside g c =

@@ -32,7 +32,7 @@ use Rattle.mq_agents.specs.Written.{drawn_need, with_senders}
 use Rattle.mq_agents.specs.Settling.{AreLone, settled_changes, settled_told}
 use Rattle.mq_agents.proofs.HeldLaws.{lone}
 use Rattle.mq_agents.proofs.WriteLaws.{aside_bodies, aside_tied, aside_view, same_aside, hardened_tied, hardened_bodies, sender_hardened, unwritten_ends, unwritten_told, tied_after, wrote_as}
-use Rattle.mq_agents.proofs.SettleLaws.{settled_part, settled_tied, settled_done, settles_as, settled_noted}
+use Rattle.mq_agents.proofs.SettleLaws.{settled_none, settled_part, settled_tied, settled_done, settles_as, settled_noted}
 use Rattle.mq_agents.proofs.ReadyLaws.{sender_gone, sender_settled}
 use Rattle.mq_agents.proofs.settling.settle_unit.Goals as goal
 
@@ -44,7 +44,7 @@ write_settled-requires-clause-live g c =
     (c.core.invariant.up (mode_up (frozen_of x) x.mode (ap (λ (p : Plain). is_up p.running) plain ∙ c.requires.up))).live
 
 pub kept_settled-kept-requires : goal.kept_settled-kept-requires
-kept_settled-kept-requires g c = ap (λ (d : SenderData). d.in_doubt) c.settled_data-hardened.ensures
+kept_settled-kept-requires g c = ap (λ (d : SenderData). d.in_doubt) c.settled_data-hardened.ensures ∙ settled_none c.args.commit c.in-Ok-sender_now.old
 
 pub write_settled-requires-clause-ends : goal.write_settled-requires-clause-ends
 write_settled-requires-clause-ends g c =
@@ -52,7 +52,7 @@ write_settled-requires-clause-ends g c =
     let plain = ap (λ (w : CoreValue). w.plain) v in
     let x : PartsValue = c.core.inside.parts in
     let up = mode_up (frozen_of x) x.mode (ap (λ (p : Plain). is_up p.running) plain ∙ c.requires.up) in
-    sender_settled c.kept_settled-kept.result x.ends x.log.spare (c.core.invariant.up up).ends (ap (λ (k : SenderSide). k.hardened.in_doubt) c.kept_settled-kept.ensures ∙ ap (λ (d : SenderData). d.in_doubt) c.settled_data-hardened.ensures)
+    sender_settled c.kept_settled-kept.result x.ends x.log.spare (c.core.invariant.up up).ends (ap (λ (k : SenderSide). k.hardened.in_doubt) c.kept_settled-kept.ensures ∙ ap (λ (d : SenderData). d.in_doubt) c.settled_data-hardened.ensures ∙ settled_none c.args.commit c.in-Ok-sender_now.old)
 
 pub invariant_of-core-in-Err-write_settled : goal.invariant_of-core-in-Err-write_settled
 invariant_of-core-in-Err-write_settled g c =
@@ -166,7 +166,7 @@ give_back-requires-clause-bytes g c =
     let spare = ap (λ (l : LogState). l.spare) w.log in
     let had = c.is_some-had.ensures ∙ ap (λ (d : SenderData). is_some d.in_doubt) c.in-Ok-sender_now.ensures in
     let gone = sender_gone c.is_some-had.result side c.args.channel.now x.ends x.log.spare (c.core.invariant.up up).ends (ap (λ (k : SenderSide). k.channel) c.kept_settled-kept.ensures)
-    (ap (λ (k : SenderSide). k.hardened.in_doubt) c.kept_settled-kept.ensures ∙ ap (λ (d : SenderData). d.in_doubt) c.settled_data-hardened.ensures) had in
+    (ap (λ (k : SenderSide). k.hardened.in_doubt) c.kept_settled-kept.ensures ∙ ap (λ (d : SenderData). d.in_doubt) c.settled_data-hardened.ensures ∙ settled_none c.args.commit c.in-Ok-sender_now.old) had in
     let same = ap (λ (p : PartsValue). p.log.spare) c.settle_rows.ensures in
     omega (arith, same, spare, gone.0)
 
@@ -182,7 +182,7 @@ give_back-requires-clause-ready g c =
     let spare = ap (λ (l : LogState). l.spare) w.log in
     let had = c.is_some-had.ensures ∙ ap (λ (d : SenderData). is_some d.in_doubt) c.in-Ok-sender_now.ensures in
     let gone = sender_gone c.is_some-had.result side c.args.channel.now x.ends x.log.spare (c.core.invariant.up up).ends (ap (λ (k : SenderSide). k.channel) c.kept_settled-kept.ensures)
-    (ap (λ (k : SenderSide). k.hardened.in_doubt) c.kept_settled-kept.ensures ∙ ap (λ (d : SenderData). d.in_doubt) c.settled_data-hardened.ensures) had in
+    (ap (λ (k : SenderSide). k.hardened.in_doubt) c.kept_settled-kept.ensures ∙ ap (λ (d : SenderData). d.in_doubt) c.settled_data-hardened.ensures ∙ settled_none c.args.commit c.in-Ok-sender_now.old) had in
     subst (λ (p : PartsValue). EndsReady p.ends (p.log.spare - drawn_need c.is_some-had.result)) (sym c.settle_rows.ensures)
     (subst (λ (e : ChannelEnds). EndsReady e (z.log.spare - drawn_need c.is_some-had.result)) (sym (ap (λ (p : PartsValue). p.ends) w.same))
     (subst (λ (n : ℕ). EndsReady (with_senders (set_sender side x.ends.senders) x.ends) (n - drawn_need c.is_some-had.result)) (sym spare) gone.1))
