@@ -7,7 +7,7 @@ pub returns-in-Err-clause-node : goal.returns-in-Err-clause-node
 returns-in-Err-clause-node g c = set_aside_node c.args.parts.now c.set_aside.new.self c.set_aside.ensures.same c.set_aside.ensures.few c.set_aside.ensures.more c.requires.node
 
 pub returns-in-Err-clause-turn : goal.returns-in-Err-clause-turn
-returns-in-Err-clause-turn g c = aside_want c.args.cable c.args.parts.now c.set_aside.new.self _ _ _ _ _ _ c.set_aside.ensures.same (g.met.W.Wire.reads_none c.args.wire.now) (g.met.W.Wire.writes_none c.args.wire.now)
+returns-in-Err-clause-turn g c = aside_want c.args.cable c.args.parts.now c.set_aside.new.self _ _ _ (Unit {0}) (Unit {0}) _ c.set_aside.ensures.same (g.met.W.Wire.reads_none c.args.wire.now) (g.met.W.Wire.writes_none c.args.wire.now)
 
 pub turn_at-requires-clause-kept : goal.turn_at-requires-clause-kept
 turn_at-requires-clause-kept g c = beside_kept c.args.parts.now c.set_aside.new.self c.set_aside.ensures.same c.requires.node.kept
