@@ -8,11 +8,10 @@ pub compare-requires : goal.compare-requires
 compare-requires g c = let few = c.requires.scenario.few.cables in omega (arith, few)
 
 pub invariant_of-result : goal.invariant_of-result
-invariant_of-result g c =
-    (
-      c.histories.ensures.rested,
-      found_at c.in-Ok-compare.found c.args.scenario.now c.in-Ok.rested.scenario c.histories.result.now c.in-Ok.rested.histories c.in-Ok-compare.ensures c.in-Ok.ensures.told.scenario c.histories.ensures.histories,
-    )
+invariant_of-result g c = (
+  c.histories.ensures.rested,
+  found_at c.in-Ok-compare.found c.args.scenario.now c.in-Ok.rested.scenario c.histories.result.now c.in-Ok.rested.histories c.in-Ok-compare.ensures c.in-Ok.ensures.told.scenario c.histories.ensures.histories,
+)
 
 pub returns-in-Err-compare : goal.returns-in-Err-compare
 returns-in-Err-compare g c =
