@@ -20,7 +20,7 @@ use Rattle.mq_restarts.specs.declared.restarting.Back.{Back}
 use Rattle.mq_restarts.specs.declared.restarting.Back.TheVariants as backs
 use Rattle.mq_restarts.specs.Backs.{IsBack, IsBackFrom}
 use Rattle.mq_spec_node.specs.Terms.{Did}
-use Rattle.mq_spec_node.specs.Words.{Own, Done, node_of, begun_anew, quiet, restarted, IsReturn, IsToldReturn}
+use Rattle.mq_spec_node.specs.Words.{Own, node_of, begun_anew, quiet, restarted, IsReturn, IsToldReturn}
 use Rattle.mq_events.specs.Counts.{AreBelow}
 use Rattle.mq_acts.specs.declared.restarting.Restarted.{Restarted}
 use Rattle.mq_acts.specs.Restarts.{IsRestart, RestartsAs, came_as, is_wanting, refused_as, StayedAs}

@@ -1,14 +1,13 @@
 //! A phase: each node goes under a lock with the ends of its cables and its scripts, workers run them in threads, and all comes back.
-ghost use Rattle.std.specs.Prelude.{◌≡◌, ◌≤◌, ◌++◌, ◌*◌, ◌<◌, ◌^◌, ℕ, [], false, true, Err, IfOk, length, vec_capacity, vec_len};
+ghost use Rattle.std.specs.Prelude.{◌≡◌, ◌≤◌, ◌*◌, ◌<◌, ◌^◌, [], false, true, Err, IfOk, length, vec_capacity, vec_len};
 ghost use Rattle.mq_nodes.specs.declared.nodes.Stop.TheVariants as stops;
 ghost use Rattle.mq_split.specs.Facing.{AreJoined};
 ghost use Rattle.mq_split.specs.Ends.{EachIs};
-ghost use Rattle.mq_shared.specs.Held.{Begun, cables_begun, entries_begun};
 ghost use Rattle.mq_split.specs.Opening.{AreOpen, EachCable, IsBare, IsShort, wholes};
-ghost use Rattle.mq_split.specs.Parting.{AllFree, AreEnds, EndRowState, IsAmong, IsBegunOver, backs_of, ends_named, outs_of};
+ghost use Rattle.mq_split.specs.Parting.{AllFree, AreEnds, EndRowState, IsAmong, IsBegunOver, Passed, backs_of, done_in, ends_named, outs_of};
 ghost use Rattle.mq_shared.specs.Phasing.{MayPhase, PhaseEnds, PhaseOwn, PhaseRan, ShortBehind};
 ghost use Rattle.mq_shared.specs.Sharing.{begun_with};
-ghost use Rattle.mq_shared.specs.Taking.{AreDone, Asked, RowsWait, since_of};
+ghost use Rattle.mq_shared.specs.Taking.{AreDone, Asked, RowsWait};
 
 use crate::courses::{ScriptRow, room_for_scripts};
 use crate::jobs::{Job, run_all};
@@ -109,13 +108,13 @@ fn join_back<'x, D: Disk, R: Wait>(
     mut rows: Items<Items<HeldEnd<'x, R>>>,
     cables: &mut Items<Cable>,
 )
-    ghost b: { Begun }
-    requires begun { IsBegunOver (cables_begun b) pipes.now lines.now }
+    ghost p: { Passed }
+    requires begun { IsBegunOver p.begun pipes.now lines.now }
     requires all { (length pipes.now ≡ length lines.now) × (length cables.old ≡ length lines.now) }
     requires managers { EachIs (IsAmong (length rows)) lines.now }
-    requires ends { AreEnds (cables_begun b) (since_of b nodes.now) (ends_named lines.now) rows }
+    requires ends { AreEnds p.begun p.since (ends_named lines.now) rows }
     requires bare { EachCable IsBare cables.old }
-    ensures joined { AreJoined lines.now (λ (m : ℕ). entries_begun b m ++ since_of b nodes.now m) cables.new }
+    ensures joined { AreJoined lines.now (done_in p) cables.new }
     ensures short { AllFree rows.entry → EachCable IsShort cables.new }
     ensures all { length cables.new ≡ length cables.old }
 {
