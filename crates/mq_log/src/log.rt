@@ -165,7 +165,8 @@ impl<D: Disk> Log<D> {
         let Some(all) = (free as u64).checked_add(bytes) else {
             return Err(NoMemory);
         };
-        self.bytes.reserve(all as usize)?;
+        // Just that: a list that doubled at each such call would grow without end where memory is set aside and drawn in turn.
+        self.bytes.reserve_exact(all as usize)?;
         self.spare += bytes;
         Ok(())
     }
