@@ -6,7 +6,7 @@ use Rattle.mq_calls.specs.Words.{InDoubt, SenderData, ReceiverData, sender_in, s
 use Rattle.mq_calls.specs.declared.state.SenderSide.{SenderSide}
 use Rattle.mq_calls.specs.declared.state.ReceiverSide.{ReceiverSide}
 use Rattle.mq_sides.specs.Places.{AreByName, counted, standing}
-use Rattle.mq_sides.specs.Kept.{RowsKept}
+use Rattle.mq_place.specs.Rooms.{RowsKept}
 use Rattle.mq_sides.proofs.PlaceLaws.{sender_found, receiver_found}
 use Rattle.mq_sides.proofs.OrderLaws.{present, sorted_set}
 use Rattle.mq_sides.proofs.SumLaws.{set_summed}

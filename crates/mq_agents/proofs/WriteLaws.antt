@@ -33,7 +33,7 @@ use Rattle.mq_core.specs.Forced.{IsForced, HasMoreRoom, downed}
 use Rattle.mq_core.specs.Values.{CoreValue, LogBodies, WritesLog, IsRecordIn, AreRecords, bodies_in, behind_record, pending_record, wrote_all}
 use Rattle.mq_core.proofs.WriteLaws.{roomier_bodies}
 use Rattle.mq_core.proofs.PutLaws.{more_room, tied_roomier, roomier_view}
-use Rattle.mq_sides.specs.Kept.{RowsKept}
+use Rattle.mq_place.specs.Rooms.{RowsKept}
 use Rattle.mq_record.specs.Room.{Buffered}
 use Rattle.mq_agents.specs.Removing.{IsRoomy}
 use Rattle.mq_core.proofs.ForceLaws.{forced_view, frozen_view, tied_downed, stops_at}

@@ -25,7 +25,7 @@ use Rattle.mq_calls.specs.declared.commands.Halt.TheVariants as halts
 use Rattle.mq_spec_manager.specs.Words.{next_ident, placed, sent_answer}
 use Rattle.mq_log.specs.State.{LogState}
 use Rattle.mq_place.specs.States.{QueueState, queues_of, state_in, change_state, expecting, unpended}
-use Rattle.mq_sides.specs.Kept.{RowsKept}
+use Rattle.mq_place.specs.Rooms.{RowsKept}
 use Rattle.mq_core.specs.Views.{PartsValue, plain_of, frozen_of, noted}
 use Rattle.mq_core.specs.Writes.{added, now_part}
 use Rattle.mq_core.specs.Calls.{now_step}

@@ -10,8 +10,8 @@ use mq_base::{Items, NoMemory};
 use mq_calls::Image;
 use mq_index::IndexedQueue;
 use mq_objects::Defs;
-use mq_place::Queues;
-use mq_sides::{KeptReceiver, KeptSender, RowRoom};
+use mq_place::{Queues, RowRoom};
+use mq_sides::{KeptReceiver, KeptSender};
 use std::alloc::Global;
 
 /// What a manager is built of from an image.

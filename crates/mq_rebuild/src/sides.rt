@@ -5,7 +5,8 @@ ghost use Rattle.mq_calls.specs.declared.state.SenderSide.{SenderSide};
 
 use mq_base::{Items, NoMemory};
 use mq_calls::{ReceiverSide, SenderSide};
-use mq_sides::{KeptReceiver, KeptSender, RowRoom};
+use mq_place::RowRoom;
+use mq_sides::{KeptReceiver, KeptSender};
 use mq_sync::InDoubt;
 use std::alloc::Global;
 

@@ -1,5 +1,5 @@
 use Rattle.std.proofs.Common.{◌≡◌, ℕ, ◌+◌, ◌≤◌, ◌∙◌, sym, ap, arith}
-use Rattle.mq_sides.specs.Kept.{RowsKept}
+use Rattle.mq_place.specs.Rooms.{RowsKept}
 use Rattle.mq_core.specs.declared.parts.ChannelEnds.{ChannelEnds}
 use Rattle.mq_core.specs.Views.{PartsValue}
 use Rattle.mq_agents.proofs.WriteLaws.{roomed_more}
