@@ -23,7 +23,7 @@ old_receiver channel e = standing (λ (r : ReceiverSide). r.channel) channel e.r
 
 -- so much more is set aside as the new side needs more than the old
 pub sender_ready : (side : SenderSide) (e : ChannelEnds) (k : RowsKept) (spare m n : ℕ) → EndsReady e spare → doubt_bytes side.hardened.in_doubt ≤ counted (λ (s : SenderSide). doubt_bytes s.hardened.in_doubt) (old_sender side.channel e) + m → length (listed side.hardened.in_doubt) ≤ counted (λ (s : SenderSide). length (listed s.hardened.in_doubt)) (old_sender side.channel e) + n
-    → e.rows.room + n ≤ k.room → EndsReady (with_senders (set_sender side e.senders) (record e { rows = k })) (spare + m)
+    → e.rows.room + length e.rows.rows + n ≤ k.room + length k.rows → EndsReady (with_senders (set_sender side e.senders) (record e { rows = k })) (spare + m)
 sender_ready side e k spare m n w bytes rows room =
     let s = set_summed (λ (s : SenderSide). s.channel) side e.senders (λ (s : SenderSide). doubt_bytes s.hardened.in_doubt) in
     let r = set_summed (λ (s : SenderSide). s.channel) side e.senders (λ (s : SenderSide). length (listed s.hardened.in_doubt)) in
@@ -88,7 +88,7 @@ most_doubt : (o : Option InDoubt) → doubt_bytes o ≤ 44
 most_doubt None = omega arith
 most_doubt (Some d) = omega arith
 
-pub sender_doubts : (side : SenderSide) (e : ChannelEnds) (k : RowsKept) (spare n : ℕ) → EndsReady e spare → length (listed side.hardened.in_doubt) ≡ n → e.rows.room + n ≤ k.room → EndsReady (with_senders (set_sender side e.senders) (record e { rows = k })) (spare + 44)
+pub sender_doubts : (side : SenderSide) (e : ChannelEnds) (k : RowsKept) (spare n : ℕ) → EndsReady e spare → length (listed side.hardened.in_doubt) ≡ n → e.rows.room + length e.rows.rows + n ≤ k.room + length k.rows → EndsReady (with_senders (set_sender side e.senders) (record e { rows = k })) (spare + 44)
 sender_doubts side e k spare n w is room = let a = most_doubt side.hardened.in_doubt in sender_ready side e k spare 44 n w (omega (arith, a)) (omega (arith, is)) room
 
 -- receivers

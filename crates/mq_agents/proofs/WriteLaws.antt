@@ -33,7 +33,7 @@ use Rattle.mq_core.specs.Forced.{IsForced, HasMoreRoom, downed}
 use Rattle.mq_core.specs.Values.{CoreValue, LogBodies, WritesLog, IsRecordIn, AreRecords, bodies_in, behind_record, pending_record, wrote_all}
 use Rattle.mq_core.proofs.WriteLaws.{roomier_bodies}
 use Rattle.mq_core.proofs.PutLaws.{more_room, tied_roomier, roomier_view}
-use Rattle.mq_place.specs.Rooms.{RowsKept}
+use Rattle.mq_place.specs.Rooms.{RoomStays, RowsKept}
 use Rattle.mq_record.specs.Room.{Buffered}
 use Rattle.mq_agents.specs.Removing.{IsRoomy}
 use Rattle.mq_core.proofs.ForceLaws.{forced_view, frozen_view, tied_downed, stops_at}
@@ -101,7 +101,7 @@ more_trans x y z m n = record {
 }
 
 pub roomed_more : (x y : PartsValue) (k : RowsKept) (room spare : ℕ) (b : Buffered) → y ≡ record x { ends = record x.ends { rows = k }; log = record x.log { room = room; spare = spare }; body = b }
-    → x.log.room ≤ room → x.log.spare ≤ spare → x.ends.rows.room ≤ k.room → x.body.room + length x.body.bytes ≤ b.room + length b.bytes → HasMoreRoom x y
+    → x.log.room ≤ room → x.log.spare ≤ spare → RoomStays x.ends.rows k → x.body.room + length x.body.bytes ≤ b.room + length b.bytes → HasMoreRoom x y
 unfolding roomed
 roomed_more x y k room spare b e more aside rows body =
     let ks : k ≡ y.ends.rows = sym (ap (λ (p : PartsValue). p.ends.rows) e) in
@@ -109,7 +109,7 @@ roomed_more x y k room spare b e more aside rows body =
     let ss : spare ≡ y.log.spare = sym (ap (λ (p : PartsValue). p.log.spare) e) in
     let bs : b ≡ y.body = sym (ap (λ (p : PartsValue). p.body) e) in
     let long = ap (λ (b : Buffered). b.room + length b.bytes) bs in
-    let wide = ap (λ (r : RowsKept). r.room) ks in
+    let wide = ap (λ (r : RowsKept). r.room + length r.rows) ks in
     record {
       same = e ∙ (λ i. roomed (ks i) (rs i) (ss i) (bs i) x);
       log = omega (arith, rs, more);

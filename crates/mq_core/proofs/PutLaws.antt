@@ -244,7 +244,7 @@ unfolding with_aside
 more_room x y e log body =
     let rows : x.ends.rows ≡ y.ends.rows = sym (ap (λ (z : PartsValue). z.ends.rows) e) in
     let spare : x.log.spare ≡ y.log.spare = sym (ap (λ (z : PartsValue). z.log.spare) e) in
-    let some = ap (λ (r : RowsKept). r.room) rows in
+    let some = ap (λ (r : RowsKept). r.room + length r.rows) rows in
     record {
       same = e ∙ (λ i. with_aside (rows i) (spare i) (record x { log = record x.log { room = y.log.room }; body = y.body }));
       log = log;

@@ -11,6 +11,7 @@ use Rattle.mq_log.specs.State.{Appended}
 use Rattle.mq_log.specs.Force.{Stops}
 use Rattle.mq_record.specs.Records.{record_bytes}
 use Rattle.mq_place.specs.States.{on_queues, change_state, expecting, unpended}
+use Rattle.mq_place.specs.Rooms.{RoomStays}
 use Rattle.mq_core.specs.declared.parts.StoppedWrite.{StoppedWrite}
 use Rattle.mq_core.specs.declared.parts.StoppedWrite.TheVariants as writes
 use Rattle.mq_core.specs.declared.parts.Mode.TheVariants as modes
@@ -39,7 +40,7 @@ pub record HasMoreRoom (x y : PartsValue) : Type 0 where
   pub same : y ≡ record x { ends = record x.ends { rows = y.ends.rows }; log = record x.log { room = y.log.room; spare = y.log.spare }; body = y.body }
   pub log : x.log.room ≤ y.log.room
   pub spare : x.log.spare ≤ y.log.spare
-  pub rows : x.ends.rows.room ≤ y.ends.rows.room
+  pub rows : RoomStays x.ends.rows y.ends.rows
   pub body : x.body.room + length x.body.bytes ≤ y.body.room + length y.body.bytes
 
 -- There is room for one row more, which waits from now on, and for a record of so many bytes.

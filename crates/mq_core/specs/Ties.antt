@@ -87,11 +87,11 @@ ends_need e = sum_by (λ (s : SenderSide). doubt_bytes s.hardened.in_doubt) e.se
 abbrev pub rows_need : ChannelEnds → ℕ
 rows_need e = sum_by (λ (s : SenderSide). length (listed s.hardened.in_doubt)) e.senders
 
--- Units in doubt are settled, and sessions closed, without memory: so many bytes of the log's are set aside for it, there is room
--- for the rows that are noted, and a side is found at its name's place.
+-- Units in doubt are settled, and sessions closed, without memory: so many bytes of the log's are set aside for it, there is memory
+-- for the rows that are noted (rows that are named here already give theirs), and a side is found at its name's place.
 pub record EndsReady (e : ChannelEnds) (spare : ℕ) : Type 0 where
   pub log : ends_need e ≤ spare
-  pub rows : rows_need e ≤ e.rows.room
+  pub rows : rows_need e ≤ e.rows.room + length e.rows.rows
   pub senders : AreByName (λ (s : SenderSide). s.channel) e.senders
   pub receivers : AreByName (λ (r : ReceiverSide). r.channel) e.receivers
 

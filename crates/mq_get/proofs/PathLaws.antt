@@ -237,5 +237,5 @@ pub back_more : (n : ℕ) (x y z : PartsValue) → IsRoomy n x y → IsGivenBack
 unfolding with_room
 back_more n x y z a b =
     let spare = ap (λ (w : PartsValue). w.log.spare) a.same in
-    let rows = ap (λ (w : PartsValue). w.ends.rows.room) a.same in
+    let rows = ap (λ (w : PartsValue). w.ends.rows.room + length w.ends.rows.rows) a.same in
     record { same = b.same ∙ ap (with_room z z.body) a.same; log = omega (arith, a.more, b.log); spare = omega (arith, spare, b.spare); rows = omega (arith, rows, b.rows); body = omega (arith, a.body, b.body) }

@@ -11,6 +11,7 @@ use Rattle.mq_calls.specs.declared.deltas.Did.TheVariants as did
 use Rattle.mq_unit.specs.Told.{Telling, told, told_all}
 use Rattle.mq_handles.specs.Seats.{pended, given_up}
 use Rattle.mq_place.specs.States.{on_queues}
+use Rattle.mq_place.specs.Rooms.{RoomStays}
 use Rattle.mq_core.specs.declared.parts.StoppedWrite.TheVariants as writes
 use Rattle.mq_core.specs.Views.{PartsValue}
 use Rattle.mq_core.specs.Placing.{with_states}
@@ -35,7 +36,7 @@ pub record IsGivenBack (n : ℕ) (x y : PartsValue) : Type 0 where
   pub same : y ≡ record x { ends = record x.ends { rows = y.ends.rows }; log = record x.log { room = y.log.room; spare = y.log.spare }; body = y.body }
   pub log : x.log.room ≤ y.log.room
   pub spare : x.log.spare ≤ y.log.spare
-  pub rows : x.ends.rows.room ≤ y.ends.rows.room
+  pub rows : RoomStays x.ends.rows y.ends.rows
   pub body : x.body.room + length x.body.bytes ≤ y.body.room + length y.body.bytes + n
 
 -- the record of rows that leave was forced, where there is one, or its write was stopped

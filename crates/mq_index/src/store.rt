@@ -1,5 +1,5 @@
 //! Rows in slots, in order of arrival, with all that finds them.
-ghost use Rattle.std.specs.Prelude.{◌≡◌, ◌+◌, ◌<◌, ◌≤◌, ◌++◌, ◌∷◌, [], ℕ, List, Option, None, Some, OnOk, OnErr, IsSome, find, length, not, option_copied, slice_get, slice_set, vec_len, vec_capacity};
+ghost use Rattle.std.specs.Prelude.{◌≡◌, ◌+◌, ◌<◌, ◌≤◌, ◌++◌, ◌∷◌, [], ℕ, List, Option, None, Some, OnOk, OnErr, IsSome, true, find, length, not, option_copied, slice_get, slice_set, vec_len, vec_capacity};
 ghost use Rattle.mq_queue.specs.declared.row.Row as rows;
 ghost use Rattle.mq_queue.specs.Rows.{is_free};
 ghost use Rattle.mq_queue.specs.Counts.{HaveRoom, IsOneMore};
