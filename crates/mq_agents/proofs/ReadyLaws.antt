@@ -14,6 +14,8 @@ use Rattle.mq_core.specs.declared.parts.ChannelEnds.{ChannelEnds}
 use Rattle.mq_core.specs.Ties.{EndsReady, doubt_bytes, session_bytes}
 use Rattle.mq_calls.specs.Recovery.{listed}
 use Rattle.mq_agents.specs.Written.{drawn_need, is_live, live_need, with_senders, with_receivers}
+use Rattle.mq_agents.specs.Settling.{doubt_before, freed_room}
+use Rattle.mq_calls.specs.Reads.{in_doubt_of}
 
 abbrev pub old_sender : List ℕ → ChannelEnds → Option SenderSide
 old_sender channel e = standing (λ (s : SenderSide). s.channel) channel e.senders
@@ -171,3 +173,56 @@ sender_gone had side channel e spare w named none is =
     let a = w.log in
     let b = w.rows in
     (omega (arith, s, here, c, a), record { log = omega (arith, s, here, c, a); rows = omega (arith, r, gone, b); senders = sorted_set (λ (s : SenderSide). s.channel) side e.senders w.senders; receivers = w.receivers })
+
+-- a sender's unit in doubt, by what stood and by what is found
+same_doubt : (o : Option SenderData) → (sender_or o).in_doubt ≡ in_doubt_of o
+same_doubt None = refl
+same_doubt (Some d) = refl
+
+stood_doubt : (o : Option SenderSide) → doubt_before o ≡ in_doubt_of (option_map (λ (s : SenderSide). s.hardened) o)
+stood_doubt None = refl
+stood_doubt (Some s) = refl
+
+pub doubt_stood : (channel : List ℕ) (e : ChannelEnds) → AreByName (λ (s : SenderSide). s.channel) e.senders → doubt_before (old_sender channel e) ≡ in_doubt_of (sender_in channel e.senders)
+doubt_stood channel e w =
+    ap doubt_before (present (λ (s : SenderSide). s.channel) channel e.senders w) ∙ stood_doubt (find (λ (s : SenderSide). bytes_eq channel s.channel) e.senders) ∙ ap in_doubt_of (sym (sender_found channel e.senders))
+
+doubt_some : (o : Option SenderSide) → is_some (in_doubt_of (option_map (λ (s : SenderSide). s.hardened) o)) ≡ true → o ≡ None → ⊥
+doubt_some None e f = absurd cc
+doubt_some (Some s) e f = absurd cc
+
+pub doubt_found : (channel : List ℕ) (ss : List SenderSide) → is_some (in_doubt_of (sender_in channel ss)) ≡ true → find (λ (s : SenderSide). bytes_eq channel s.channel) ss ≡ None → ⊥
+doubt_found channel ss some none = doubt_some (find (λ (s : SenderSide). bytes_eq channel s.channel) ss) (ap (λ (o : Option SenderData). is_some (in_doubt_of o)) (sym (sender_found channel ss)) ∙ some) none
+
+-- what it lists is no more than what there is memory for
+listed_counted : (o : Option SenderSide) → counted (λ (s : SenderSide). length (listed s.hardened.in_doubt)) o ≡ length (listed (doubt_before o))
+listed_counted None = refl
+listed_counted (Some s) = refl
+
+pub listed_room : (channel : List ℕ) (e : ChannelEnds) (spare : ℕ) → EndsReady e spare → length (listed (in_doubt_of (sender_in channel e.senders))) ≤ e.rows.room + length e.rows.rows
+listed_room channel e spare w =
+    let blank : SenderSide = record { channel = channel; hardened = sender_or None } in
+    let r = set_summed (λ (s : SenderSide). s.channel) blank e.senders (λ (s : SenderSide). length (listed s.hardened.in_doubt)) in
+    let c = listed_counted (old_sender channel e) ∙ ap (λ (o : Option InDoubt). length (listed o)) (doubt_stood channel e w.senders) in
+    let b = w.rows in
+    omega (arith, r, c, b)
+
+pub sender_left : (had : Bool) (side : SenderSide) (channel : List ℕ) (e : ChannelEnds) (spare : ℕ) → EndsReady e spare → side.channel ≡ channel → side.hardened.in_doubt ≡ None → had ≡ is_some (in_doubt_of (sender_in channel e.senders)) → EndsReady (with_senders (set_sender side e.senders) e) (spare - drawn_need had)
+sender_left had side channel e spare w named none is = (sender_gone had side channel e spare w named none (is ∙ ap (λ (o : Option InDoubt). is_some o) (sym (same_doubt (sender_in channel e.senders))))).1
+
+pub drawn_within : (had : Bool) (channel : List ℕ) (e : ChannelEnds) (spare : ℕ) → EndsReady e spare → had ≡ is_some (in_doubt_of (sender_in channel e.senders)) → drawn_need had ≤ spare
+drawn_within had channel e spare w is =
+    let blank : SenderSide = record { channel = channel; hardened = sender_or None } in
+    (sender_gone had blank channel e spare w refl refl (is ∙ ap (λ (o : Option InDoubt). is_some o) (sym (same_doubt (sender_in channel e.senders))))).0
+
+-- where it is settled, the room of its rows is kept no longer
+pub sender_freed : (had : Bool) (side : SenderSide) (channel : List ℕ) (e : ChannelEnds) (spare n : ℕ) → EndsReady e spare → side.channel ≡ channel → side.hardened.in_doubt ≡ None → had ≡ is_some (in_doubt_of (sender_in channel e.senders)) → n ≡ length (listed (doubt_before (old_sender side.channel e)))
+    → (n ≤ e.rows.room + length e.rows.rows) × EndsReady (record (with_senders (set_sender side e.senders) e) { rows = freed_room n e.rows }) (spare - drawn_need had)
+sender_freed had side channel e spare n w named none is count =
+    let g = sender_gone had side channel e spare w named none (is ∙ ap (λ (o : Option InDoubt). is_some o) (sym (same_doubt (sender_in channel e.senders)))) in
+    let r = set_summed (λ (s : SenderSide). s.channel) side e.senders (λ (s : SenderSide). length (listed s.hardened.in_doubt)) in
+    let gone = ap (λ (o : Option InDoubt). length (listed o)) none in
+    let c = listed_counted (old_sender side.channel e) in
+    let b = w.rows in
+    let k = g.1 in
+    (omega (arith, r, gone, c, count, b), record { log = k.log; rows = omega (arith, r, gone, c, count, b); senders = k.senders; receivers = k.receivers })
