@@ -1,8 +1,8 @@
 -- Channel ends stay ready where a side is set.
-use Rattle.std.proofs.Common.{◌≡◌, ℕ, ◌+◌, ◌-◌, ◌≤◌, Bool, true, false, List, [], ◌∷◌, length, refl, ap, arith, sym, subst, ◌∙◌}
+use Rattle.std.proofs.Common.{◌≡◌, ℕ, ◌+◌, ◌-◌, ◌≤◌, Bool, true, false, List, length, refl, ap, arith, sym, subst, ◌∙◌}
 use Rattle.std.specs.Prelude.{Option, Some, None, find, is_some, not, option_map}
 use Rattle.std.specs.Str.{bytes_eq}
-use Rattle.mq_calls.specs.Words.{InDoubt, SenderData, ReceiverData, sender_in, sender_or, receiver_in, receiver_or, set_sender, set_receiver}
+use Rattle.mq_calls.specs.Words.{InDoubt, SenderData, sender_in, sender_or, receiver_in, set_sender, set_receiver}
 use Rattle.mq_calls.specs.declared.state.SenderSide.{SenderSide}
 use Rattle.mq_calls.specs.declared.state.ReceiverSide.{ReceiverSide}
 use Rattle.mq_sides.specs.Places.{AreByName, counted, standing}

@@ -1,6 +1,6 @@
 -- A unit in doubt that is settled: its rows go, or are free again.
 use Rattle.std.proofs.Common.{◌≡◌, ℕ, ◌+◌, ◌-◌, ◌≤◌, Bool, true, false, List, [], ◌∷◌, length, map, refl, ap, arith, sym, subst, ◌∙◌}
-use Rattle.std.specs.Prelude.{Option, Some, None, Err, find, is_some, not}
+use Rattle.std.specs.Prelude.{Option, Some, None, Err, find, is_some, not, option_map}
 use Rattle.mq_calls.specs.Recovery.{listed}
 use Rattle.mq_message.specs.declared.place.Holder.{Holder}
 use Rattle.mq_message.specs.declared.place.Holder.TheVariants as holders
@@ -10,7 +10,7 @@ use Rattle.mq_calls.specs.State.{Queue as StateQueue}
 use Rattle.mq_calls.specs.Words.{Ident, Row, Luw, Plain, Part, Do, SenderData, HeldBy, selects, sender_or, sender_data, apply, apply_all}
 use Rattle.mq_calls.specs.declared.records.Remove.{Remove}
 use Rattle.mq_calls.specs.State.Change.{SetSender}
-use Rattle.mq_spec_manager.specs.Agents.{harden, held_rows, settle_change}
+use Rattle.mq_spec_manager.specs.Agents.{CanHarden, harden, held_rows, settle_change, unit_of}
 use Rattle.mq_core.specs.declared.parts.StoppedWrite.TheVariants as writes
 use Rattle.mq_core.specs.Views.{PartsValue, plain_of, frozen_of, noted}
 use Rattle.mq_core.specs.Ties.{EndsReady, Tied, mode_is_up, times_in_rows}
@@ -172,3 +172,11 @@ told_enough (Some d) had count room now is few some need same = let a = few d re
 -- the rows of a note are those that are held
 pub freed_ready : (less : ℕ) (q y : PartsValue) → y ≡ with_named (freed_room less q.ends.rows) q → EndsReady (record q.ends { rows = freed_room less q.ends.rows }) q.log.spare → EndsReady y.ends y.log.spare
 freed_ready less q y e w = subst (λ (p : PartsValue). EndsReady p.ends p.log.spare) (sym e) w
+
+-- a unit that is settled by its number is in doubt
+doubt_there : (o : Option InDoubt) (unit : Luw) → option_map unit_of o ≡ Some unit → is_some o ≡ true
+doubt_there None unit e = absurd cc
+doubt_there (Some d) unit e = refl
+
+pub is_doubted : (channel : List ℕ) (unit : Luw) (commit operator : Bool) (p : Plain) → CanHarden channel (notes.Resolved unit commit operator) p → is_some (in_doubt_of (sender_data channel p)) ≡ true
+is_doubted channel unit commit operator p can = doubt_there (in_doubt_of (sender_data channel p)) unit can.0

@@ -226,6 +226,13 @@ fn list_rows<D: Disk>(parts: &mut Parts<D>, channel: &ChName) -> Result<(), NoMe
     }
 }
 
+/// How many rows are named.
+fn rows_named<D: Disk>(parts: &Parts<D>) -> usize
+    ensures { result ≡ length parts.now.ends.rows.rows }
+{
+    parts.ends.rows.as_slice().len()
+}
+
 /// Makes room for what is told of so many rows and of their settlement, but where a unit in doubt has it.
 fn tell_room(effects: &mut Effects, count: usize, had: bool) -> Result<(), NoMemory>
     ensures dids { effects.new.dids ≡ effects.old.dids }
@@ -388,6 +395,14 @@ fn tell_settled(effects: &mut Effects, rows: &[Remove], commit: bool)
     }
 }
 
+/// So of the rows that are named.
+fn tell_rows(effects: &mut Effects, rows: &RowRoom, commit: bool)
+    requires { length rows.now.rows ≤ effects.old.room }
+    ensures { effects.new ≡ told_all (map (settle_did commit) rows.now.rows) effects.old }
+{
+    tell_settled(effects, rows.as_slice(), commit);
+}
+
 /// What was set aside for a unit in doubt is room of the log again. It takes no memory.
 fn draw_if<D: Disk>(parts: &mut Parts<D>, had: bool)
     requires { drawn_need had ≤ parts.old.log.spare }
@@ -431,7 +446,7 @@ fn settle_unit<D: Disk>(
         Ok(()) => {}
         Err(NoMemory) => return Err(AgentStop::NoMemory),
     }
-    let count = core.parts.ends.rows.as_slice().len();
+    let count = rows_named(&core.parts);
     let had = has_doubt(&core.parts, channel);
     match tell_room(&mut core.effects, count, had) {
         Ok(()) => {}
@@ -461,7 +476,7 @@ fn settle_unit<D: Disk>(
     take_room(&mut core.effects, before);
     let by = Holder::Batch(*channel);
     settle_rows(&mut core.parts, &by, commit);
-    tell_settled(&mut core.effects, core.parts.ends.rows.as_slice(), commit);
+    tell_rows(&mut core.effects, &core.parts.ends.rows, commit);
     free_rows(&mut core.parts, less);
     core.effects.tell(Did::Hardened {
         channel: *channel,

@@ -1,12 +1,12 @@
-use Rattle.std.proofs.Common.{◌≡◌, ℕ, ◌+◌, List, [], ap, sym, subst, ◌∙◌, length, arith}
+use Rattle.std.proofs.Common.{◌≡◌, ◌+◌, ap, sym, subst, ◌∙◌, length, arith}
 use Rattle.mq_message.specs.declared.place.Holder.TheVariants as holders
-use Rattle.mq_calls.specs.Words.{Plain, sender_data}
+use Rattle.mq_calls.specs.Words.{sender_data}
 use Rattle.mq_calls.specs.Reads.{in_doubt_of}
 use Rattle.mq_spec_manager.specs.Agents.{held_rows}
 use Rattle.mq_law_manager.specs.Facts.{Sound, AreNamed}
 use Rattle.mq_place.specs.Rooms.{RowsKept}
 use Rattle.mq_core.specs.Views.{PartsValue, plain_of}
-use Rattle.mq_agents.specs.Settling.{IsShortOf, with_named}
+use Rattle.mq_agents.specs.Settling.{with_named}
 use Rattle.mq_agents.proofs.settling.list_rows.Goals as goal
 
 pub name_rows-requires-clause-sound : goal.name_rows-requires-clause-sound

@@ -1,14 +1,13 @@
-use Rattle.std.proofs.Common.{◌≡◌, ℕ, ◌+◌, List, [], ◌++◌, ap, sym, ◌∙◌, length, arith}
+use Rattle.std.proofs.Common.{◌≡◌, ℕ, ◌+◌, List, ◌++◌, ap, sym, ◌∙◌, length, arith}
 use Rattle.std.specs.Prelude.{take}
 use Rattle.mq_message.specs.declared.place.Holder.TheVariants as holders
 use Rattle.mq_calls.specs.Words.{stored, sender_data}
 use Rattle.mq_calls.specs.Reads.{in_doubt_of}
 use Rattle.mq_calls.specs.declared.records.Remove.{Remove}
 use Rattle.mq_sync.specs.declared.data.InDoubt.{InDoubt}
-use Rattle.mq_spec_manager.specs.Agents.{held_on, held_rows}
-use Rattle.mq_place.specs.Rooms.{RowsKept}
+use Rattle.mq_spec_manager.specs.Agents.{held_on}
 use Rattle.mq_core.specs.Views.{plain_of}
-use Rattle.mq_agents.proofs.HeldLaws.{all_listed, short_all, short_first}
+use Rattle.mq_agents.proofs.HeldLaws.{all_listed, short_first}
 use Rattle.mq_agents.proofs.settling.name_rows.Goals as goal
 
 pub returns-then-len-most-clause-rows : goal.returns-then-len-most-clause-rows

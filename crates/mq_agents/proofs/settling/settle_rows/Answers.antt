@@ -1,11 +1,10 @@
-use Rattle.std.proofs.Common.{◌≡◌, List, ap, sym, subst, ◌∙◌, refl}
+use Rattle.std.proofs.Common.{◌≡◌, ap, ◌∙◌}
 use Rattle.std.specs.List.{flat_map}
-use Rattle.mq_calls.specs.declared.records.Remove.{Remove}
 use Rattle.mq_spec_manager.specs.Agents.{held_on}
 use Rattle.mq_place.specs.Rooms.{RowsKept}
 use Rattle.mq_place.specs.States.{queues_of}
 use Rattle.mq_core.specs.Views.{PartsValue}
-use Rattle.mq_agents.specs.Settling.{AreLone, each_settled, none_named, rows_settled, with_named}
+use Rattle.mq_agents.specs.Settling.{each_settled, none_named, rows_settled, with_named}
 use Rattle.mq_agents.proofs.HeldLaws.{each_settles, settled_back}
 use Rattle.mq_agents.proofs.settling.settle_rows.Goals as goal
 

@@ -1,11 +1,10 @@
-use Rattle.std.proofs.Common.{◌≡◌, ℕ, ◌+◌, ◌≤◌, ◌∙◌, sym, ap, subst, refl, arith, inl, inr}
-use Rattle.std.specs.Prelude.{List, length, None, find, Ok, Err}
+use Rattle.std.proofs.Common.{◌≡◌, ℕ, ◌∙◌, ap, subst, refl, arith, inl, inr}
+use Rattle.std.specs.Prelude.{List, None, find, Ok, Err}
 use Rattle.std.specs.Str.{bytes_eq}
 use Rattle.mq_base.specs.Outside.{Rose}
 use Rattle.mq_log.specs.State.{LogState, Appended}
 use Rattle.mq_log.specs.Force.{Stops}
 use Rattle.mq_calls.specs.Words.{set_sender}
-use Rattle.mq_calls.specs.declared.records.Remove.{Remove}
 use Rattle.mq_calls.specs.declared.state.SenderSide.{SenderSide}
 use Rattle.mq_place.specs.Rooms.{RowsKept}
 use Rattle.mq_sides.specs.Places.{AreByName, standing}
