@@ -479,6 +479,22 @@ hardening_told u v new x y z channel note change bytes e agent a up m is size w 
     subst (λ (part : Part). WritesLog {F = Never} {T = Unit {0}} v (Do tt (part ∷ [])) (by_agent (Err agent)) new) (sym part)
     (unwritten_told Never u v new x y z (writes.Hardened channel note) (note_record channel note) (change ∷ []) (did.Hardened channel note ∷ []) nothing bytes e agent a up m is size w (noted_as channel note change x here) plain bodies seen log)
 
+-- There was no memory: room was taken, and nothing else has changed.
+wants_any : {F T : Type 0} (v new : ManagerValue) (s : Step F T) → new ≡ record v { delta = []; stopped = None } → MeetsOrWants {F = F} {T = T} v s (Err halts.NoMemory) new
+wants_any v new (Refuse reason) e = e
+wants_any v new (Do reply parts) e = e
+
+pub wanted_meets : {F T : Type 0} (v : ManagerValue) (x y : PartsValue) (told : List Did) (stopped : Option Stop) (s : Step F T) → HasMoreRoom x y → plain_of x ≡ v.plain → x.log.faults ≡ v.faults → told ≡ [] → stopped ≡ None
+    → MeetsOrWants {F = F} {T = T} v s (Err halts.NoMemory) (record { plain = plain_of y; delta = told; stopped = stopped; faults = y.log.faults })
+wanted_meets {F} {T} v x y told stopped s more plain faults none unstopped =
+    let seen = roomier_view x y more ∙ plain in
+    let failed = ap (λ (p : PartsValue). p.log.faults) more.same ∙ faults in
+    wants_any {F = F} {T = T} v (record { plain = plain_of y; delta = told; stopped = stopped; faults = y.log.faults }) s (λ i. record { plain = seen i; delta = none i; stopped = unstopped i; faults = failed i })
+
+pub wanted_told : {F T : Type 0} (v new : CoreValue) (x y : PartsValue) (s : Step F T) → HasMoreRoom x y → bodies_in x.log ≡ v.log → new.log ≡ bodies_in y.log → WritesLog {F = F} {T = T} v s (Err halts.NoMemory) new
+wanted_told v new x y (Refuse reason) more bodies log = log ∙ roomier_bodies x y more ∙ bodies
+wanted_told v new x y (Do reply parts) more bodies log = log ∙ roomier_bodies x y more ∙ bodies
+
 -- A call that wants no memory.
 pub in_room : {T : Type 0} (v new : ManagerValue) (step : Step Never T) (r : Result T AgentStop) → WantsNone r → MeetsOrWants v step (by_agent r) new → MeetsInRoom v step (by_agent r) new
 in_room v new (Refuse reason) (Ok value) w m = absurd m

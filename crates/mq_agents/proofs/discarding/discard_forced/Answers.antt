@@ -19,11 +19,12 @@ use Rattle.mq_core.specs.declared.parts.StoppedWrite.{StoppedWrite}
 use Rattle.mq_core.specs.Views.{PartsValue, plain_of, frozen_of, noted}
 use Rattle.mq_core.specs.Ties.{Tied, mode_is_up}
 use Rattle.mq_core.proofs.MeetLaws.{mode_up}
+use Rattle.mq_core.proofs.PutLaws.{tied_roomier}
 use Rattle.mq_agents.specs.Ends.{by_agent, halt_of}
 use Rattle.mq_agents.specs.Removing.{lasts}
 use Rattle.mq_agents.proofs.EndLaws.{free_as}
 use Rattle.mq_calls.specs.declared.commands.Halt.TheVariants as halts
-use Rattle.mq_agents.proofs.WriteLaws.{broke_told, wrote_as, broke_as, halt_stopped, forced_tied, forced_seen, forced_mode, stopped_seen, stopped_tied}
+use Rattle.mq_agents.proofs.WriteLaws.{wanted_meets, wanted_told, broke_told, wrote_as, broke_as, halt_stopped, forced_tied, forced_seen, forced_mode, stopped_seen, stopped_tied}
 use Rattle.mq_agents.proofs.RemoveLaws.{one_part, one_step, discards_as, tied_removed, removed_view}
 use Rattle.mq_core.specs.Values.{CoreValue, manager_of, bodies_in, behind_record, pending_record}
 use Rattle.mq_core.proofs.WriteLaws.{forced_bodies, stopped_bodies, writes_as}
@@ -190,3 +191,18 @@ returns-clause-told g c =
           ∙ ap (behind_record (Some r)) (ap (λ (q : PartsValue). bodies_in q.log) h.same ∙ ap (λ (k : CoreValue). k.log) v),
       (c.in-Ok-force_remove.ensures.fits, tt),
     )
+
+-- there was no memory
+pub invariant_of-core-in-Err-make_record_room : goal.invariant_of-core-in-Err-make_record_room
+invariant_of-core-in-Err-make_record_room g c = tied_roomier c.core.inside.parts c.make_record_room.new.parts c.in-Err-make_record_room.ensures.err c.core.invariant
+
+pub returns-in-Err-make_record_room-clause-meets : goal.returns-in-Err-make_record_room-clause-meets
+returns-in-Err-make_record_room-clause-meets g c =
+    let v = c.core.view_is ∙ c.begin_call.ensures in
+    wanted_meets (manager_of c.args.core.now) c.core.inside.parts c.make_record_room.new.parts c.reserve.new.self.dids c.core.inside.stopped (discard c.args.queue.now c.args.ident.now c.args.core.now.plain) c.in-Err-make_record_room.ensures.err
+    (ap (λ (w : CoreValue). w.plain) v) (ap (λ (w : CoreValue). w.faults) v) (c.reserve.ensures.dids ∙ ap (λ (w : CoreValue). w.delta) v) (ap (λ (w : CoreValue). w.stopped) v)
+
+pub returns-in-Err-make_record_room-clause-told : goal.returns-in-Err-make_record_room-clause-told
+returns-in-Err-make_record_room-clause-told g c =
+    let v = c.core.view_is ∙ c.begin_call.ensures in
+    wanted_told c.args.core.now _ c.core.inside.parts c.make_record_room.new.parts (discard c.args.queue.now c.args.ident.now c.args.core.now.plain) c.in-Err-make_record_room.ensures.err (ap (λ (w : CoreValue). w.log) v) refl

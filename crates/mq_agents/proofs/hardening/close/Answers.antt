@@ -55,8 +55,8 @@ write_receiver-requires-clause-ends g c =
     subst (λ (q : PartsValue). EndsReady (with_receivers (set_receiver side q.ends.receivers) q.ends) q.log.spare) (sym c.draw.ensures)
     (receiver_closed side x.ends x.log.spare w (ap (λ (k : ReceiverSide). k.hardened.closed) is ∙ c.requires.closed) (omega (arith, had)))
 
-pub invariant_of-core-in-Err : goal.invariant_of-core-in-Err
-invariant_of-core-in-Err g c =
+pub invariant_of-core : goal.invariant_of-core
+invariant_of-core g c =
     let v = c.core.view_is ∙ c.begin_call.ensures in
     let plain = ap (λ (w : CoreValue). w.plain) v in
     let x : PartsValue = c.core.inside.parts in

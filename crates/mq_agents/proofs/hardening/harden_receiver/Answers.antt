@@ -8,8 +8,9 @@ use Rattle.mq_unit.specs.Told.{Telling}
 use Rattle.mq_log.specs.State.{LogState}
 use Rattle.mq_core.specs.Views.{PartsValue, plain_of, frozen_of}
 use Rattle.mq_core.proofs.MeetLaws.{mode_up}
+use Rattle.mq_spec_manager.specs.Agents.{harden}
 use Rattle.mq_agents.specs.Written.{with_receivers, note_record, noted_change}
-use Rattle.mq_agents.proofs.WriteLaws.{hardened_tied, hardened_meets, hardening_ends, hardening_told, hardened_wrote, hardened_bodies, more_aside, tied_after, receiver_hardened}
+use Rattle.mq_agents.proofs.WriteLaws.{wanted_meets, hardened_tied, hardened_meets, hardening_ends, hardening_told, hardened_wrote, hardened_bodies, more_aside, tied_after, receiver_hardened}
 use Rattle.mq_core.specs.Values.{CoreValue, manager_of, behind_record}
 use Rattle.mq_calls.specs.declared.state.ReceiverSide.{ReceiverSide}
 use Rattle.mq_core.specs.declared.parts.StoppedWrite.TheVariants as writes
@@ -137,3 +138,16 @@ returns-clause-told g c =
     hardened_wrote c.args.channel.now c.args.note.now (SetReceiver c.args.channel.now side.hardened) c.args.core.now.plain c.args.core.now.log _ part c.requires.size.1
     (hardened_bodies r c.args.bytes.now (with_receivers (set_receiver side y.ends.receivers) y.ends) y c.write_receiver.new.parts c.requires.bytes c.in-Ok-write_receiver.ensures.written.1
     ∙ ap (behind_record (Some r)) (roomier_bodies x y more ∙ ap (λ (w : CoreValue). w.log) (c.core.view_is ∙ c.begin_call.ensures)))
+
+-- no memory was set aside
+pub invariant_of-core-in-Err-aside_for : goal.invariant_of-core-in-Err-aside_for
+invariant_of-core-in-Err-aside_for g c = tied_roomier c.core.inside.parts c.aside_for.new.parts c.aside_for.ensures.more c.core.invariant
+
+pub returns-in-Err-aside_for-clause-meets : goal.returns-in-Err-aside_for-clause-meets
+returns-in-Err-aside_for-clause-meets g c =
+    let v = c.core.view_is ∙ c.begin_call.ensures in
+    wanted_meets (manager_of c.args.core.now) c.core.inside.parts c.aside_for.new.parts c.reserve.new.self.dids c.core.inside.stopped (harden c.args.channel.now c.args.note.now c.args.core.now.plain) c.aside_for.ensures.more
+    (ap (λ (w : CoreValue). w.plain) v) (ap (λ (w : CoreValue). w.faults) v) (c.reserve.ensures.dids ∙ ap (λ (w : CoreValue). w.delta) v) (ap (λ (w : CoreValue). w.stopped) v)
+
+pub returns-in-Err-aside_for-clause-told : goal.returns-in-Err-aside_for-clause-told
+returns-in-Err-aside_for-clause-told g c = roomier_bodies c.core.inside.parts c.aside_for.new.parts c.aside_for.ensures.more ∙ ap (λ (w : CoreValue). w.log) (c.core.view_is ∙ c.begin_call.ensures)

@@ -16,11 +16,11 @@ use Rattle.mq_core.specs.Views.{PartsValue, plain_of, frozen_of}
 use Rattle.mq_core.specs.Ties.{EndsReady, Tied, mode_is_up}
 use Rattle.mq_calls.specs.Recovery.{listed}
 use Rattle.mq_core.proofs.MeetLaws.{mode_up}
-use Rattle.mq_core.proofs.PutLaws.{roomier_view}
+use Rattle.mq_core.proofs.PutLaws.{roomier_view, tied_roomier}
 use Rattle.mq_agents.specs.Written.{IsWhole, with_senders}
 use Rattle.mq_agents.specs.Removing.{IsDoubtOf, doubt_record}
 use Rattle.mq_agents.specs.Ends.{by_prepare, halt_of}
-use Rattle.mq_agents.proofs.WriteLaws.{roomy_more, more_aside, more_trans, hardened_tied, sender_hardened, unwritten_ends, unwritten_told, hardened_bodies, tied_after, wrote_as}
+use Rattle.mq_agents.proofs.WriteLaws.{wanted_meets, wanted_told, roomy_more, more_aside, more_trans, hardened_tied, sender_hardened, unwritten_ends, unwritten_told, hardened_bodies, tied_after, wrote_as}
 use Rattle.mq_agents.proofs.DoubtLaws.{doubt_changes, doubt_part, prepares_as, doubt_noted, dropped_view, dropped_tied}
 use Rattle.mq_core.specs.Values.{CoreValue, manager_of, bodies_in, behind_record}
 use Rattle.mq_core.proofs.WriteLaws.{roomier_bodies, writes_as}
@@ -204,3 +204,99 @@ returns-clause-told g c =
     let step : prepare channel last p ≡ Do tt (doubt_part channel d old ∷ []) = ap (prepare channel last) (sym plain) ∙ prepares_as d channel last (plain_of x) here fits ∙ ap (λ (s : SenderData). Do tt (doubt_part channel d s ∷ [])) was in
     writes_as c.args.core.now _ (prepare channel last p) (Do tt (doubt_part channel d old ∷ [])) (Ok tt) step
     (ap (λ (q : PartsValue). bodies_in q.log) c.drop_batch.ensures ∙ hardened_bodies r y.body.bytes e y z fl.bytes c.in-Ok-write_doubt.ensures ∙ ap (behind_record (Some r)) (roomier_bodies x y more ∙ ap (λ (w : CoreValue). w.log) v), (fl.fits, tt))
+
+-- there was no memory
+pub invariant_of-core-in-Err-aside_for_doubt : goal.invariant_of-core-in-Err-aside_for_doubt
+invariant_of-core-in-Err-aside_for_doubt g c =
+    let x : PartsValue = c.core.inside.parts in
+    let first : PartsValue = c.aside_for_doubt.new.parts in
+    let y : PartsValue = first in
+    tied_roomier x y (c.aside_for_doubt.ensures.more) c.core.invariant
+
+pub returns-in-Err-aside_for_doubt-clause-meets : goal.returns-in-Err-aside_for_doubt-clause-meets
+returns-in-Err-aside_for_doubt-clause-meets g c =
+    let v = c.core.view_is ∙ c.begin_call.ensures in
+    let x : PartsValue = c.core.inside.parts in
+    let first : PartsValue = c.aside_for_doubt.new.parts in
+    let y : PartsValue = first in
+    wanted_meets (manager_of c.args.core.now) x y c.reserve.new.self.dids c.core.inside.stopped (prepare c.args.channel.now c.args.last c.args.core.now.plain) (c.aside_for_doubt.ensures.more)
+    (ap (λ (w : CoreValue). w.plain) v) (ap (λ (w : CoreValue). w.faults) v) (c.reserve.ensures.dids ∙ ap (λ (w : CoreValue). w.delta) v) (ap (λ (w : CoreValue). w.stopped) v)
+
+pub returns-in-Err-aside_for_doubt-clause-told : goal.returns-in-Err-aside_for_doubt-clause-told
+returns-in-Err-aside_for_doubt-clause-told g c =
+    let v = c.core.view_is ∙ c.begin_call.ensures in
+    let x : PartsValue = c.core.inside.parts in
+    let first : PartsValue = c.aside_for_doubt.new.parts in
+    let y : PartsValue = first in
+    wanted_told c.args.core.now _ x y (prepare c.args.channel.now c.args.last c.args.core.now.plain) (c.aside_for_doubt.ensures.more) (ap (λ (w : CoreValue). w.log) v) refl
+
+pub invariant_of-core-in-Err-fill_prepared : goal.invariant_of-core-in-Err-fill_prepared
+invariant_of-core-in-Err-fill_prepared g c =
+    let x : PartsValue = c.core.inside.parts in
+    let first : PartsValue = c.aside_for_doubt.new.parts in
+    let y : PartsValue = c.fill_prepared.new.parts in
+    tied_roomier x y (more_trans x first y c.aside_for_doubt.ensures.more c.in-Err-fill_prepared.ensures.err) c.core.invariant
+
+pub returns-in-Err-fill_prepared-clause-meets : goal.returns-in-Err-fill_prepared-clause-meets
+returns-in-Err-fill_prepared-clause-meets g c =
+    let v = c.core.view_is ∙ c.begin_call.ensures in
+    let x : PartsValue = c.core.inside.parts in
+    let first : PartsValue = c.aside_for_doubt.new.parts in
+    let y : PartsValue = c.fill_prepared.new.parts in
+    wanted_meets (manager_of c.args.core.now) x y c.reserve.new.self.dids c.core.inside.stopped (prepare c.args.channel.now c.args.last c.args.core.now.plain) (more_trans x first y c.aside_for_doubt.ensures.more c.in-Err-fill_prepared.ensures.err)
+    (ap (λ (w : CoreValue). w.plain) v) (ap (λ (w : CoreValue). w.faults) v) (c.reserve.ensures.dids ∙ ap (λ (w : CoreValue). w.delta) v) (ap (λ (w : CoreValue). w.stopped) v)
+
+pub returns-in-Err-fill_prepared-clause-told : goal.returns-in-Err-fill_prepared-clause-told
+returns-in-Err-fill_prepared-clause-told g c =
+    let v = c.core.view_is ∙ c.begin_call.ensures in
+    let x : PartsValue = c.core.inside.parts in
+    let first : PartsValue = c.aside_for_doubt.new.parts in
+    let y : PartsValue = c.fill_prepared.new.parts in
+    wanted_told c.args.core.now _ x y (prepare c.args.channel.now c.args.last c.args.core.now.plain) (more_trans x first y c.aside_for_doubt.ensures.more c.in-Err-fill_prepared.ensures.err) (ap (λ (w : CoreValue). w.log) v) refl
+
+pub invariant_of-core-in-Err-kept_sender : goal.invariant_of-core-in-Err-kept_sender
+invariant_of-core-in-Err-kept_sender g c =
+    let x : PartsValue = c.core.inside.parts in
+    let first : PartsValue = c.aside_for_doubt.new.parts in
+    let y : PartsValue = c.fill_prepared.new.parts in
+    tied_roomier x y (more_trans x first y c.aside_for_doubt.ensures.more (roomy_more (need (doubt_record c.args.channel.now c.args.doubt)) first y c.in-Ok-fill_prepared.ensures.ok.roomy)) c.core.invariant
+
+pub returns-in-Err-kept_sender-clause-meets : goal.returns-in-Err-kept_sender-clause-meets
+returns-in-Err-kept_sender-clause-meets g c =
+    let v = c.core.view_is ∙ c.begin_call.ensures in
+    let x : PartsValue = c.core.inside.parts in
+    let first : PartsValue = c.aside_for_doubt.new.parts in
+    let y : PartsValue = c.fill_prepared.new.parts in
+    wanted_meets (manager_of c.args.core.now) x y c.reserve.new.self.dids c.core.inside.stopped (prepare c.args.channel.now c.args.last c.args.core.now.plain) (more_trans x first y c.aside_for_doubt.ensures.more (roomy_more (need (doubt_record c.args.channel.now c.args.doubt)) first y c.in-Ok-fill_prepared.ensures.ok.roomy))
+    (ap (λ (w : CoreValue). w.plain) v) (ap (λ (w : CoreValue). w.faults) v) (c.reserve.ensures.dids ∙ ap (λ (w : CoreValue). w.delta) v) (ap (λ (w : CoreValue). w.stopped) v)
+
+pub returns-in-Err-kept_sender-clause-told : goal.returns-in-Err-kept_sender-clause-told
+returns-in-Err-kept_sender-clause-told g c =
+    let v = c.core.view_is ∙ c.begin_call.ensures in
+    let x : PartsValue = c.core.inside.parts in
+    let first : PartsValue = c.aside_for_doubt.new.parts in
+    let y : PartsValue = c.fill_prepared.new.parts in
+    wanted_told c.args.core.now _ x y (prepare c.args.channel.now c.args.last c.args.core.now.plain) (more_trans x first y c.aside_for_doubt.ensures.more (roomy_more (need (doubt_record c.args.channel.now c.args.doubt)) first y c.in-Ok-fill_prepared.ensures.ok.roomy)) (ap (λ (w : CoreValue). w.log) v) refl
+
+-- the record can be written
+pub write_doubt-requires-clause-live : goal.write_doubt-requires-clause-live
+write_doubt-requires-clause-live g c =
+    let plain = ap (λ (w : CoreValue). w.plain) (c.core.view_is ∙ c.begin_call.ensures) in
+    let x : PartsValue = c.core.inside.parts in
+    let first : PartsValue = c.aside_for_doubt.new.parts in
+    let y : PartsValue = c.fill_prepared.new.parts in
+    let more = more_trans x first y c.aside_for_doubt.ensures.more (roomy_more (need (doubt_record c.args.channel.now c.args.doubt)) first y c.in-Ok-fill_prepared.ensures.ok.roomy) in
+    ap (λ (p : PartsValue). p.log.live) more.same ∙ (c.core.invariant.up (mode_up (frozen_of x) x.mode (ap (λ (p : Plain). is_up p.running) plain ∙ c.requires.up))).live
+
+pub write_doubt-requires-clause-small : goal.write_doubt-requires-clause-small
+write_doubt-requires-clause-small g c =
+    let fl = c.in-Ok-fill_prepared.ensures.ok in
+    let long = ap length fl.bytes in
+    omega (arith, long, fl.size, c.requires.few)
+
+pub write_doubt-requires-clause-room : goal.write_doubt-requires-clause-room
+write_doubt-requires-clause-room g c =
+    let fl = c.in-Ok-fill_prepared.ensures.ok in
+    let long = ap length fl.bytes in
+    let held = ap (λ (p : PartsValue). p.log.reserved) fl.roomy.same in
+    omega (arith, long, held, fl.size, fl.roomy.log)
