@@ -29,14 +29,12 @@ use Rattle.mq_core.specs.Ties.{EndsReady, Tied, mode_is_up}
 use Rattle.mq_core.proofs.MeetLaws.{mode_up}
 use Rattle.mq_core.proofs.PutLaws.{tied_roomier, roomier_view}
 use Rattle.mq_core.specs.Values.{CoreValue, manager_of, bodies_in, behind_record}
-use Rattle.mq_core.proofs.WriteLaws.{writes_as}
+use Rattle.mq_core.proofs.WriteLaws.{roomier_bodies, writes_as}
 use Rattle.mq_agents.specs.Ends.{halt_of}
 use Rattle.mq_agents.specs.Written.{drawn_need, with_senders}
-use Rattle.mq_agents.specs.declared.hardening.Unwritten.TheVariants as unwritten
-use Rattle.mq_calls.specs.declared.agents.AgentStop.TheVariants as agent_stops
 use Rattle.mq_agents.specs.Settling.{AreLone, doubt_before, freed_room, settled_changes, settled_told}
 use Rattle.mq_agents.proofs.HeldLaws.{few_held, lone}
-use Rattle.mq_agents.proofs.WriteLaws.{aside_bodies, aside_tied, aside_view, hardened_tied, hardened_bodies, rows_aside, same_aside, sender_hardened, unwritten_ends, unwritten_told, tied_after, wants_none, wrote_as}
+use Rattle.mq_agents.proofs.WriteLaws.{aside_bodies, aside_tied, aside_view, hardened_tied, hardened_bodies, rows_aside, sender_hardened, unwritten_ends, unwritten_told, tied_after, wanted_meets, wants_none, wrote_as}
 use Rattle.mq_agents.proofs.SettleLaws.{IsSettling, drawn_ends, drawn_spare, freed_ready, listed_more, no_short, settled_part, settled_tied, settled_done, settles_as, settled_noted, settling_aside, settling_ends, settling_live, settling_more, settling_none, settling_ready, settling_up, told_enough}
 use Rattle.mq_agents.proofs.ReadyLaws.{doubt_stood, drawn_within, listed_room, old_sender, sender_freed}
 use Rattle.mq_agents.proofs.settling.settle_unit.Goals as goal
@@ -64,50 +62,19 @@ invariant_of-core-in-Err g c =
 pub returns-in-Err-clause-meets : goal.returns-in-Err-clause-meets
 returns-in-Err-clause-meets g c =
     let v = c.core.view_is ∙ c.begin_call.ensures in
-    let plain = ap (λ (w : CoreValue). w.plain) v in
     let x : PartsValue = c.core.inside.parts in
     let k : PartsValue = c.list_rows.new.parts in
-    let up = mode_up (frozen_of x) x.mode (ap (λ (p : Plain). is_up p.running) plain ∙ c.requires.up) in
     let more = listed_more x k c.list_rows.ensures.same c.list_rows.ensures.room in
-    let channel = c.args.channel.now in
-    let p : Plain = c.args.core.now.plain in
-    let unit = c.args.unit.now in
-    let commit = c.args.commit in
-    let operator = c.args.operator in
-    let bytes : List ℕ = c.args.bytes.now in
-    let r : LogRecord = records.Resolved channel unit commit operator in
-    let rows : List Remove = held_rows (holders.Batch channel) p in
-    let old : SenderData = sender_or (sender_data channel p) in
-    let step = settles_as commit operator channel unit rows old p refl refl in
-    let nothing : Unit {0} = tt in
-    let note = settled_noted commit operator channel unit rows old x (ap (λ (q : Plain). sender_or (sender_data channel q)) (sym plain)) in
-    subst (λ (s : Step Never (Unit {0})). MeetsOrWants (manager_of c.args.core.now) s (Err (halt_of {F = Never} agent_stops.NoMemory)) (record { plain = plain_of k; delta = c.core.inside.effects.dids; stopped = c.core.inside.stopped; faults = k.log.faults })) (sym step)
-    (unwritten_ends Never unwritten.NoMemory (manager_of c.args.core.now) x x k c.core.inside.effects.dids (writes.Settled channel unit commit operator rows) r (settled_changes commit channel old) (settled_told commit operator channel unit rows) nothing bytes x.ends
-    agent_stops.NoMemory c.core.inside.stopped refl (ap (λ (w : CoreValue). w.stopped) v) up (same_aside x) c.requires.bytes c.requires.size more note plain (ap (λ (w : CoreValue). w.faults) v) (ap (λ (w : CoreValue). w.delta) v))
+    wanted_meets (manager_of c.args.core.now) x k c.core.inside.effects.dids c.core.inside.stopped (harden c.args.channel.now (notes.Resolved c.args.unit.now c.args.commit c.args.operator) c.args.core.now.plain) more
+    (ap (λ (w : CoreValue). w.plain) v) (ap (λ (w : CoreValue). w.faults) v) (ap (λ (w : CoreValue). w.delta) v) (ap (λ (w : CoreValue). w.stopped) v)
 
 pub returns-in-Err-clause-told : goal.returns-in-Err-clause-told
 returns-in-Err-clause-told g c =
     let v = c.core.view_is ∙ c.begin_call.ensures in
-    let plain = ap (λ (w : CoreValue). w.plain) v in
     let x : PartsValue = c.core.inside.parts in
     let k : PartsValue = c.list_rows.new.parts in
-    let up = mode_up (frozen_of x) x.mode (ap (λ (p : Plain). is_up p.running) plain ∙ c.requires.up) in
     let more = listed_more x k c.list_rows.ensures.same c.list_rows.ensures.room in
-    let channel = c.args.channel.now in
-    let p : Plain = c.args.core.now.plain in
-    let unit = c.args.unit.now in
-    let commit = c.args.commit in
-    let operator = c.args.operator in
-    let bytes : List ℕ = c.args.bytes.now in
-    let r : LogRecord = records.Resolved channel unit commit operator in
-    let rows : List Remove = held_rows (holders.Batch channel) p in
-    let old : SenderData = sender_or (sender_data channel p) in
-    let step = settles_as commit operator channel unit rows old p refl refl in
-    let nothing : Unit {0} = tt in
-    let note = settled_noted commit operator channel unit rows old x (ap (λ (q : Plain). sender_or (sender_data channel q)) (sym plain)) in
-    writes_as c.args.core.now _ (harden channel (notes.Resolved unit commit operator) p) (Do nothing (settled_part commit operator channel unit rows old ∷ [])) (Err (halt_of {F = Never} agent_stops.NoMemory)) step
-    (unwritten_told Never unwritten.NoMemory c.args.core.now _ x x k (writes.Settled channel unit commit operator rows) r (settled_changes commit channel old) (settled_told commit operator channel unit rows) nothing bytes x.ends
-    agent_stops.NoMemory refl up (same_aside x) c.requires.bytes c.requires.size more note plain (ap (λ (w : CoreValue). w.log) v) refl refl)
+    roomier_bodies x k more ∙ ap (λ (w : CoreValue). w.log) v
 
 pub returns-in-Err-clause-wants : goal.returns-in-Err-clause-wants
 returns-in-Err-clause-wants g c =
@@ -134,50 +101,19 @@ invariant_of-core-in-Err-tell_room g c =
 pub returns-in-Err-tell_room-clause-meets : goal.returns-in-Err-tell_room-clause-meets
 returns-in-Err-tell_room-clause-meets g c =
     let v = c.core.view_is ∙ c.begin_call.ensures in
-    let plain = ap (λ (w : CoreValue). w.plain) v in
     let x : PartsValue = c.core.inside.parts in
     let k : PartsValue = c.list_rows.new.parts in
-    let up = mode_up (frozen_of x) x.mode (ap (λ (p : Plain). is_up p.running) plain ∙ c.requires.up) in
     let more = listed_more x k c.list_rows.ensures.same c.list_rows.ensures.room in
-    let channel = c.args.channel.now in
-    let p : Plain = c.args.core.now.plain in
-    let unit = c.args.unit.now in
-    let commit = c.args.commit in
-    let operator = c.args.operator in
-    let bytes : List ℕ = c.args.bytes.now in
-    let r : LogRecord = records.Resolved channel unit commit operator in
-    let rows : List Remove = held_rows (holders.Batch channel) p in
-    let old : SenderData = sender_or (sender_data channel p) in
-    let step = settles_as commit operator channel unit rows old p refl refl in
-    let nothing : Unit {0} = tt in
-    let note = settled_noted commit operator channel unit rows old x (ap (λ (q : Plain). sender_or (sender_data channel q)) (sym plain)) in
-    subst (λ (s : Step Never (Unit {0})). MeetsOrWants (manager_of c.args.core.now) s (Err (halt_of {F = Never} agent_stops.NoMemory)) (record { plain = plain_of k; delta = c.tell_room.new.effects.dids; stopped = c.core.inside.stopped; faults = k.log.faults })) (sym step)
-    (unwritten_ends Never unwritten.NoMemory (manager_of c.args.core.now) x x k c.tell_room.new.effects.dids (writes.Settled channel unit commit operator rows) r (settled_changes commit channel old) (settled_told commit operator channel unit rows) nothing bytes x.ends
-    agent_stops.NoMemory c.core.inside.stopped refl (ap (λ (w : CoreValue). w.stopped) v) up (same_aside x) c.requires.bytes c.requires.size more note plain (ap (λ (w : CoreValue). w.faults) v) (c.tell_room.ensures.dids ∙ ap (λ (w : CoreValue). w.delta) v))
+    wanted_meets (manager_of c.args.core.now) x k c.tell_room.new.effects.dids c.core.inside.stopped (harden c.args.channel.now (notes.Resolved c.args.unit.now c.args.commit c.args.operator) c.args.core.now.plain) more
+    (ap (λ (w : CoreValue). w.plain) v) (ap (λ (w : CoreValue). w.faults) v) (c.tell_room.ensures.dids ∙ ap (λ (w : CoreValue). w.delta) v) (ap (λ (w : CoreValue). w.stopped) v)
 
 pub returns-in-Err-tell_room-clause-told : goal.returns-in-Err-tell_room-clause-told
 returns-in-Err-tell_room-clause-told g c =
     let v = c.core.view_is ∙ c.begin_call.ensures in
-    let plain = ap (λ (w : CoreValue). w.plain) v in
     let x : PartsValue = c.core.inside.parts in
     let k : PartsValue = c.list_rows.new.parts in
-    let up = mode_up (frozen_of x) x.mode (ap (λ (p : Plain). is_up p.running) plain ∙ c.requires.up) in
     let more = listed_more x k c.list_rows.ensures.same c.list_rows.ensures.room in
-    let channel = c.args.channel.now in
-    let p : Plain = c.args.core.now.plain in
-    let unit = c.args.unit.now in
-    let commit = c.args.commit in
-    let operator = c.args.operator in
-    let bytes : List ℕ = c.args.bytes.now in
-    let r : LogRecord = records.Resolved channel unit commit operator in
-    let rows : List Remove = held_rows (holders.Batch channel) p in
-    let old : SenderData = sender_or (sender_data channel p) in
-    let step = settles_as commit operator channel unit rows old p refl refl in
-    let nothing : Unit {0} = tt in
-    let note = settled_noted commit operator channel unit rows old x (ap (λ (q : Plain). sender_or (sender_data channel q)) (sym plain)) in
-    writes_as c.args.core.now _ (harden channel (notes.Resolved unit commit operator) p) (Do nothing (settled_part commit operator channel unit rows old ∷ [])) (Err (halt_of {F = Never} agent_stops.NoMemory)) step
-    (unwritten_told Never unwritten.NoMemory c.args.core.now _ x x k (writes.Settled channel unit commit operator rows) r (settled_changes commit channel old) (settled_told commit operator channel unit rows) nothing bytes x.ends
-    agent_stops.NoMemory refl up (same_aside x) c.requires.bytes c.requires.size more note plain (ap (λ (w : CoreValue). w.log) v) refl refl)
+    roomier_bodies x k more ∙ ap (λ (w : CoreValue). w.log) v
 
 pub returns-in-Err-tell_room-clause-wants : goal.returns-in-Err-tell_room-clause-wants
 returns-in-Err-tell_room-clause-wants g c =
