@@ -1,10 +1,10 @@
 //! Restarts, as events.
-ghost use Rattle.std.specs.Prelude.{◌≡◌, ◌+◌, ◌<◌, ◌^◌, []};
+ghost use Rattle.std.specs.Prelude.{◌≡◌, []};
 ghost use Rattle.mq_history.specs.declared.acts.Act.TheVariants as acts;
 ghost use Rattle.mq_history.specs.declared.calls.Call.TheVariants as calls;
-ghost use Rattle.mq_events.specs.States.{IsServed, with_entry};
+ghost use Rattle.mq_events.specs.States.{IsServed};
 ghost use Rattle.mq_events.specs.Events.{MayAct};
-ghost use Rattle.mq_events.specs.Counts.{HasFewRows, IsNode};
+ghost use Rattle.mq_events.specs.Counts.{IsNode};
 ghost use Rattle.mq_acts.specs.Restarts.{BeganFew, RestartsAs, StayedAs, TellsAs, acted_by, came_as, chance_of, is_wanting, own_behind, restart_entry};
 
 use crate::beginning::begin;

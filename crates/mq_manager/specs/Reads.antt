@@ -39,14 +39,12 @@ abbrev pub IsLowNote : Note → Type 0
 IsLowNote (notes.Session partner session) = session < 2 ^ 61
 IsLowNote _ = Unit {0}
 
--- it closes a session, or settles a unit in doubt
+-- it closes a session
 abbrev pub IsEnding : Note → Type 0
-IsEnding (notes.Resolved unit commit operator) = Unit {0}
 IsEnding (notes.Closed session) = Unit {0}
 IsEnding _ = ⊥
 
 abbrev pub is_ending : Note → Bool
-is_ending (notes.Resolved unit commit operator) = true
 is_ending (notes.Closed session) = true
 is_ending _ = false
 
@@ -58,6 +56,6 @@ abbrev pub is_low : Note → Bool
 is_low (notes.Session partner session) = nat_lt session (2 ^ 61)
 is_low _ = true
 
--- what can be closed or settled has a name
+-- a session that can be closed has a name
 abbrev pub can_harden : List ℕ → Note → Bool
 can_harden channel note = is_ending note || (has_name channel && is_low note)

@@ -18,7 +18,6 @@ use Rattle.mq_objects.specs.Names.Space.{Queues}
 use Rattle.mq_calls.specs.Images.{numbered}
 use Rattle.mq_calls.specs.declared.image.Image.{Image}
 use Rattle.mq_calls.specs.declared.image.Shelf.{Shelf}
-use Rattle.mq_sync.specs.declared.data.InDoubt.{InDoubt}
 use Rattle.mq_calls.specs.declared.state.SenderSide.{SenderSide}
 use Rattle.mq_calls.specs.declared.state.ReceiverSide.{ReceiverSide}
 use Rattle.mq_calls.specs.Changes.{comes_before}
@@ -31,7 +30,7 @@ use Rattle.mq_law_manager.proofs.Lists.{ident_yes, ident_self}
 use Rattle.mq_law_manager.proofs.Named.{name_is}
 use Rattle.mq_law_image.proofs.Naming.{shelf_names, local_names, is_local_at, name_listed, local_found}
 use Rattle.mq_sides.specs.Places.{AreByName}
-use Rattle.mq_core.specs.Ties.{EndsReady, Tied, doubt_rows, ends_need, state_lanes, local_lanes, pending_at, times_in_rows, times_in_queues, one_if}
+use Rattle.mq_core.specs.Ties.{EndsReady, Tied, ends_need, state_lanes, local_lanes, pending_at, times_in_rows, times_in_queues, one_if}
 use Rattle.mq_rebuild.specs.declared.building.Built.{Built}
 use Rattle.mq_rebuild.specs.Rebuilt.{is_laned, state_on, IsBuilt}
 use Rattle.mq_restart.specs.Begun.{begun_ends, begun_parts, IsFresh}
@@ -238,18 +237,10 @@ none_pending name d (s ∷ ss) = by (bytes_eq name s.name) (none_pending name d 
 
 -- ---- what channel ends have
 
-doubt_listed : (o : Option InDoubt) → doubt_rows o ≡ length (listed o)
-doubt_listed None = refl
-doubt_listed (Some d) = refl
-
-rows_listed : (ss : List SenderSide) → sum_by (λ (s : SenderSide). doubt_rows s.hardened.in_doubt) ss ≡ sum_by (λ (s : SenderSide). length (listed s.hardened.in_doubt)) ss
-rows_listed [] = refl
-rows_listed (s ∷ ss) = let one = doubt_listed s.hardened.in_doubt in let more = rows_listed ss in omega (arith, one, more)
-
 ends_ready : (i : Image) (b : Built) (log : LogState) → IsBuilt i b → IsImage i → ends_need (begun_ends b) ≤ log.spare → EndsReady (begun_ends b) log.spare
 ends_ready i b log h image aside = record {
   log = aside;
-  rows = let e = ap (λ (ss : List SenderSide). sum_by (λ (s : SenderSide). doubt_rows s.hardened.in_doubt) ss) h.senders in let l = rows_listed i.senders in let k = h.rows in omega (arith, e, l, k);
+  rows = subst (λ (ss : List SenderSide). sum_by (λ (s : SenderSide). length (listed s.hardened.in_doubt)) ss ≤ b.rows.room) (sym h.senders) h.rows;
   senders = subst (λ (ss : List SenderSide). AreByName (λ (s : SenderSide). s.channel) ss) (sym h.senders) (pairs_chain (λ (s t : SenderSide). comes_before s.channel t.channel ≡ true) i.senders image.senders_sorted);
   receivers = subst (λ (rs : List ReceiverSide). AreByName (λ (r : ReceiverSide). r.channel) rs) (sym h.receivers) (pairs_chain (λ (r t : ReceiverSide). comes_before r.channel t.channel ≡ true) i.receivers image.receivers_sorted);
 }
