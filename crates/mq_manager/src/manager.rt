@@ -453,8 +453,8 @@ impl<D: Disk> Manager<D> {
     /// # Errors
     ///
     /// The disk or the cut stopped the write, and the manager is down; no memory, and nothing has changed: also where the channel's
-    /// name is blank, or a session comes to 2^61, which no restart would read. `Closed` takes no memory, and never lacks
-    /// it: its room was made as the session was hardened.
+    /// name is blank, or a session comes to 2^61, which no restart would read. `Closed` and `Resolved` take no memory, and never lack
+    /// it: their room was made as the session or the unit was hardened.
     pub fn harden(&mut self, channel: &ChName, note: &Note) -> Result<(), AgentStop>
         requires up { IsUp self.old.plain }
         requires can { CanHarden channel.now note.now self.old.plain }
