@@ -240,7 +240,7 @@ none_pending name d (s ∷ ss) = by (bytes_eq name s.name) (none_pending name d 
 ends_ready : (i : Image) (b : Built) (log : LogState) → IsBuilt i b → IsImage i → ends_need (begun_ends b) ≤ log.spare → EndsReady (begun_ends b) log.spare
 ends_ready i b log h image aside = record {
   log = aside;
-  rows = subst (λ (ss : List SenderSide). sum_by (λ (s : SenderSide). length (listed s.hardened.in_doubt)) ss ≤ b.rows.room) (sym h.senders) h.rows;
+  rows = let room = h.rows in subst (λ (ss : List SenderSide). sum_by (λ (s : SenderSide). length (listed s.hardened.in_doubt)) ss ≤ b.rows.room + length b.rows.rows) (sym h.senders) (omega (arith, room));
   senders = subst (λ (ss : List SenderSide). AreByName (λ (s : SenderSide). s.channel) ss) (sym h.senders) (pairs_chain (λ (s t : SenderSide). comes_before s.channel t.channel ≡ true) i.senders image.senders_sorted);
   receivers = subst (λ (rs : List ReceiverSide). AreByName (λ (r : ReceiverSide). r.channel) rs) (sym h.receivers) (pairs_chain (λ (r t : ReceiverSide). comes_before r.channel t.channel ≡ true) i.receivers image.receivers_sorted);
 }
