@@ -1,10 +1,11 @@
 -- Channels that are bound, as their places tell.
 use Rattle.std.proofs.Common.{◌≡◌, ℕ, zero, suc, ◌+◌, ◌≤◌, Bool, true, false, cond, List, [], ◌∷◌, length, refl, ap, arith, sym, subst, ◌∙◌, inl, inr}
 use Rattle.std.specs.Prelude.{Option, Some, None, find, is_some, not, filter, map, take, slice_get, slice_set, ◌&&◌, ◌||◌}
-use Rattle.std.specs.List.{list_any}
+use Rattle.std.specs.List.{AllByRecursion, list_any}
 use Rattle.std.specs.Str.{bytes_eq}
 use Rattle.mq_base.specs.Members.{Mem}
 use Rattle.mq_calls.specs.Words.{comes_before, set_named}
+use Rattle.mq_calls.specs.declared.state.ReceiverSide.{ReceiverSide}
 use Rattle.mq_sides.specs.declared.bonds.Bond.{Bond}
 use Rattle.mq_sides.specs.Bonds.{KeepsSeats, bound_of, has_seat, seats_of, unbound_at}
 use Rattle.mq_sides.specs.Places.{AreByName}
@@ -279,3 +280,29 @@ pub get_unbound : (n : ℕ) (bs : List Bond) → slice_get bs n ≡ None → bs 
 get_unbound n [] e = refl
 get_unbound zero (x ∷ xs) e = absurd cc
 get_unbound (suc n) (x ∷ xs) e = ap (λ (ks : List Bond). x ∷ ks) (get_unbound n xs e)
+
+-- receivers that have their places keep them
+pub all_seated : (old new : List (List ℕ)) → KeepsSeats old new → (rs : List ReceiverSide) → AllByRecursion (λ (r : ReceiverSide). has_seat r.channel old ≡ true) rs → AllByRecursion (λ (r : ReceiverSide). has_seat r.channel new ≡ true) rs
+all_seated old new k [] h = tt
+all_seated old new k (r ∷ rs) h = (k r.channel h.0, all_seated old new k rs h.1)
+
+-- and one that is set among them has its
+pub set_seated : (seats : List (List ℕ)) (new : ReceiverSide) (rs : List ReceiverSide) → has_seat new.channel seats ≡ true → AllByRecursion (λ (r : ReceiverSide). has_seat r.channel seats ≡ true) rs
+    → AllByRecursion (λ (r : ReceiverSide). has_seat r.channel seats ≡ true) (set_named (λ (r : ReceiverSide). r.channel) new rs)
+set_seated seats new [] e h = (e, tt)
+set_seated seats new (r ∷ rs) e h = by (bytes_eq new.channel r.channel) (comes_before new.channel r.channel) (set_seated seats new rs e h.1)
+  where
+    by : (t f : Bool) → AllByRecursion (λ (x : ReceiverSide). has_seat x.channel seats ≡ true) (set_named (λ (x : ReceiverSide). x.channel) new rs)
+        → AllByRecursion (λ (x : ReceiverSide). has_seat x.channel seats ≡ true) (cond t (new ∷ rs) (cond f (new ∷ r ∷ rs) (r ∷ set_named (λ (x : ReceiverSide). x.channel) new rs)))
+    by true f rest = (e, h.1)
+    by false true rest = (e, h)
+    by false false rest = (h.0, rest)
+
+-- what is found of a channel has the channel's place
+pub seat_of_found : (seats : List (List ℕ)) (c : List ℕ) (r : ReceiverSide) (rs : List ReceiverSide) → AllByRecursion (λ (x : ReceiverSide). has_seat x.channel seats ≡ true) rs → find (λ (x : ReceiverSide). bytes_eq c x.channel) rs ≡ Some r → has_seat c seats ≡ true
+seat_of_found seats c r [] h e = absurd cc
+seat_of_found seats c r (x ∷ xs) h e = by (bytes_eq c x.channel) refl e (seat_of_found seats c r xs h.1)
+  where
+    by : (t : Bool) → bytes_eq c x.channel ≡ t → cond t (Some x) (find (λ (y : ReceiverSide). bytes_eq c y.channel) xs) ≡ Some r → (find (λ (y : ReceiverSide). bytes_eq c y.channel) xs ≡ Some r → has_seat c seats ≡ true) → has_seat c seats ≡ true
+    by true is e rest = ap (λ (n : List ℕ). has_seat n seats) (name_is c x.channel is) ∙ h.0
+    by false is e rest = rest e
