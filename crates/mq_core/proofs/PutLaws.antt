@@ -263,7 +263,16 @@ given_up queue n x y e = more_room x (with_states (change_state queue unpended y
     (ap (unpended_of queue) e.same ∙ ap (λ (states : List QueueState). let l : LogState = record x.log { room = y.log.room } in with_states_of states x l y.body) (unpend_expect queue x.queues.states))
     e.more (omega (arith, e.body))
 
--- more room leaves all tied
+-- more room leaves channel ends ready, and all tied
+pub ready_roomier : (x y : PartsValue) → HasMoreRoom x y → EndsReady x.ends x.log.spare → EndsReady y.ends y.log.spare
+ready_roomier x y h w = subst (λ (p : PartsValue). EndsReady p.ends p.log.spare) (sym h.same) (record {
+  log = let a = w.log in omega (arith, a, h.spare);
+  rows = let a = w.rows in omega (arith, a, h.rows);
+  senders = w.senders;
+  receivers = w.receivers;
+  seats = all_seated x.ends.bound.seats y.ends.bound.seats h.seats x.ends.receivers w.seats;
+})
+
 pub tied_roomier : (x y : PartsValue) → HasMoreRoom x y → Tied x → Tied y
 tied_roomier x y h t = subst Tied (sym h.same) (record {
   up = λ u. let w = t.up u in record {
