@@ -119,8 +119,12 @@ fn drop_bond<D: Disk>(parts: &mut Parts<D>, channel: &ChName)
     parts.ends.bound.unbind(channel);
 }
 
-// A receiver is bound from now on.
-fn bind<D: Disk>(core: &mut Core<D>, channel: &ChName) -> Result<(), NoMemory>
+/// A receiver is bound from now on. Of one that has hardened something it takes no memory.
+///
+/// # Errors
+///
+/// No memory; nothing has changed.
+pub fn bind<D: Disk>(core: &mut Core<D>, channel: &ChName) -> Result<(), NoMemory>
     requires up { IsUp core.old.plain }
     ensures meets { MeetsOrWants (manager_of core.old) (set_bound channel.now true core.old.plain) (by_memory result) (manager_of core.new) }
     ensures told { WritesLog core.old (set_bound channel.now true core.old.plain) (by_memory result) core.new }
@@ -128,13 +132,14 @@ fn bind<D: Disk>(core: &mut Core<D>, channel: &ChName) -> Result<(), NoMemory>
 {
     core.begin_call();
     match put_bond(&mut core.parts, channel) {
-        Ok(()) => Ok(()),
-        Err(NoMemory) => Err(NoMemory),
+        Ok(()) => {}
+        Err(NoMemory) => return Err(NoMemory),
     }
+    Ok(())
 }
 
-// A receiver isn't bound from now on. It takes no memory.
-fn unbind<D: Disk>(core: &mut Core<D>, channel: &ChName)
+/// A receiver isn't bound from now on. It takes no memory.
+pub fn unbind<D: Disk>(core: &mut Core<D>, channel: &ChName)
     requires up { IsUp core.old.plain }
     ensures meets { MeetsOrWants (manager_of core.old) (set_bound channel.now false core.old.plain) (Ok tt) (manager_of core.new) }
     ensures room { MeetsInRoom (manager_of core.old) (set_bound channel.now false core.old.plain) (Ok tt) (manager_of core.new) }
