@@ -26,14 +26,14 @@ unfolding with_ends with_bonds
 bound_tied channel x y b t = subst Tied (sym b.same) (tied_ends (with_bonds x.ends y.ends.bound) x (bonds_ready y.ends.bound x.ends x.log.spare b.seats) t)
 
 -- what the plain manager then is
-pub with_bound_of : List ℕ → Plain → Plain
+abbrev pub with_bound_of : List ℕ → Plain → Plain
 with_bound_of channel p = record p { channels = record p.channels { bound = set_named (λ (name : List ℕ). name) channel p.channels.bound } }
 
 with_bound : Plain → List (List ℕ) → Plain
 with_bound p ns = record p { channels = record p.channels { bound = ns } }
 
 pub bound_view : (channel : List ℕ) (x y : PartsValue) → mode_is_up x.mode ≡ true → IsBoundNow channel x y → plain_of y ≡ with_bound_of channel (plain_of x)
-unfolding with_ends with_bonds with_bound with_bound_of
+unfolding with_ends with_bonds with_bound
 bound_view channel x y up b = ap plain_of b.same ∙ ends_view (with_bonds x.ends y.ends.bound) x up ∙ ap (with_bound (plain_of x)) b.bound
 
 pub unbound_tied : (channel : List ℕ) (x y : PartsValue) → y ≡ receiver_unbound channel x → Tied x → Tied y

@@ -26,12 +26,6 @@ fn is_seized(seizures: &[Seizure], channel: &ChName) -> bool
     false
 }
 
-fn is_bound(bound: &[ChName], channel: &ChName) -> bool
-    ensures { result ≡ list_any (bytes_eq channel.now) bound.now }
-{
-    bound.iter().any(|other| *channel == *other)
-}
-
 fn is_in_doubt(senders: &[KeptSender], channel: &ChName) -> bool
     ensures { result ≡ is_some (in_doubt_of (sender_in channel.now senders.now)) }
 {
@@ -91,7 +85,7 @@ impl<'a, D: Disk> InUse for ObjectUse<'a, D> {
     fn channel_busy(&self, name: &ChName) -> bool {
         let core = self.core;
         is_seized(core.parts.ends.seizures.as_slice(), name)
-            || is_bound(core.parts.ends.bound.as_slice(), name)
+            || core.parts.ends.bound.is_bound(name)
             || is_in_doubt(core.parts.ends.senders.as_slice(), name)
     }
 
