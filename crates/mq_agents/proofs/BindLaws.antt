@@ -1,9 +1,12 @@
 -- A receiver that is bound, or is not any more.
-use Rattle.std.proofs.Common.{◌≡◌, ℕ, Bool, true, false, List, refl, ap, sym, subst, ◌∙◌}
-use Rattle.std.specs.Prelude.{Option, Some, None, find, filter, is_some, not, option_map}
+use Rattle.std.proofs.Common.{◌≡◌, ℕ, true, false, List, refl, ap, sym, subst, ◌∙◌}
+use Rattle.std.specs.Prelude.{Option, Some, None, Result, Ok, Err, OnErr, find, filter, is_some, not, option_map}
 use Rattle.std.specs.List.{AllByRecursion}
 use Rattle.std.specs.Str.{bytes_eq}
-use Rattle.mq_calls.specs.Words.{Plain, ReceiverData, receiver_in, set_named}
+use Rattle.mq_base.specs.declared.want.NoMemory.{NoMemory}
+use Rattle.mq_calls.specs.Words.{Plain, ReceiverData, ManagerValue, MeetsInRoom, MeetsOrWants, receiver_data, receiver_in, set_named}
+use Rattle.mq_spec_manager.specs.Agents.{set_bound}
+use Rattle.mq_agents.specs.Ends.{by_memory}
 use Rattle.mq_calls.specs.declared.state.ReceiverSide.{ReceiverSide}
 use Rattle.mq_sides.specs.Bonds.{BondsKept, has_seat}
 use Rattle.mq_sides.proofs.BondLaws.{all_seated, seat_of_found}
@@ -55,3 +58,9 @@ none_of (Some d) h = absurd (cc (h refl))
 pub no_receiver : (channel : List ℕ) (e : ChannelEnds) (spare : ℕ) → EndsReady e spare → has_seat channel e.bound.seats ≡ false → receiver_in channel e.receivers ≡ None
 no_receiver channel e spare w none = none_of (receiver_in channel e.receivers) (λ some.
     sym none ∙ seat_in e.bound.seats channel e.receivers (find (λ (r : ReceiverSide). bytes_eq channel r.channel) e.receivers) w.seats refl (ap (λ (o : Option ReceiverData). is_some o) (sym (receiver_found channel e.receivers)) ∙ some))
+
+-- so it is bound without memory
+pub bond_in_room : (channel : List ℕ) (p : Plain) (v new : ManagerValue) (r : Result (Unit {0}) NoMemory) → OnErr r (receiver_data channel p ≡ None) → is_some (receiver_data channel p) ≡ true
+    → MeetsOrWants v (set_bound channel true p) (by_memory r) new → MeetsInRoom v (set_bound channel true p) (by_memory r) new
+bond_in_room channel p v new (Ok value) none some m = m
+bond_in_room channel p v new (Err want) none some m = absurd (let wrong : false ≡ true = ap (λ (o : Option ReceiverData). is_some o) (sym none) ∙ some in cc)

@@ -381,15 +381,16 @@ impl<D: Disk> Manager<D> {
         mq_agents::leave(&mut self.core, channel);
     }
 
-    /// Whether a receiver is bound from now on. Only a first bond of a channel takes memory: to end one takes none.
+    /// Whether a receiver is bound from now on. Of one that has hardened something it takes no memory, nor where a bond ends.
     ///
     /// # Errors
     ///
-    /// No memory, of a bond that begins; nothing has changed.
+    /// No memory, of a channel of which nothing is kept; nothing has changed.
     pub fn set_bound(&mut self, channel: &ChName, bound: bool) -> Result<(), NoMemory>
         requires up { IsUp self.old.plain }
         ensures meets { MeetsOrWants (manager_of self.old) (set_bound channel.now bound self.old.plain) (by_memory result) (manager_of self.new) }
         ensures room { bound ≡ false → MeetsInRoom (manager_of self.old) (set_bound channel.now bound self.old.plain) (by_memory result) (manager_of self.new) }
+        ensures seated { is_some (receiver_data channel.now self.old.plain) ≡ true → MeetsInRoom (manager_of self.old) (set_bound channel.now bound self.old.plain) (by_memory result) (manager_of self.new) }
         ensures told { WritesLog self.old (set_bound channel.now bound self.old.plain) (by_memory result) self.new }
     {
         mq_agents::set_bound(&mut self.core, channel, bound)

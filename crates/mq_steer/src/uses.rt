@@ -1,7 +1,5 @@
 //! What a manager says of the use of its objects.
 ghost use Rattle.std.specs.Prelude.{◌≡◌, ◌||◌, is_some, true};
-ghost use Rattle.std.specs.List.{list_any};
-ghost use Rattle.std.specs.Str.{bytes_eq};
 ghost use Rattle.mq_calls.specs.Words.{has_rows, stored, seizure_of, in_doubt_of, sender_in};
 ghost use Rattle.mq_spec_manager.specs.Commands.{uses_of};
 ghost use Rattle.mq_core.specs.Views.{plain_of};
