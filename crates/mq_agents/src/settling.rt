@@ -123,6 +123,7 @@ fn all_held<D: Disk>(
 }
 
 /// Names the first rows that a holder has on a queue, at most so many. It walks to the last of them.
+#[tactic(auto, using(mq_core::proofs::PlaceLaws::queue_in_state, mq_core::proofs::ReadLaws::queue_none))]
 fn rows_on<D: Disk>(
     parts: &Parts<D>,
     queue: &QName,
