@@ -1,10 +1,9 @@
 -- A batch that becomes the unit in doubt.
-use Rattle.std.proofs.Common.{◌≡◌, ℕ, ◌+◌, ◌<◌, ◌≤◌, Bool, true, false, cond, List, [], ◌∷◌, length, refl, ap, arith, sym, subst, ◌∙◌}
+use Rattle.std.proofs.Common.{◌≡◌, ℕ, ◌≤◌, Bool, true, false, cond, List, [], ◌∷◌, length, refl, ap, sym, subst, ◌∙◌}
 use Rattle.std.specs.Prelude.{Option, Some, None}
-use Rattle.mq_calls.specs.Words.{InDoubt, SenderData, Plain, Part, Change, Noted, Step, Do, Refuse, sender_or, sender_data, data_prepared, batch_of, is_full, need, when, refused_or, apply}
+use Rattle.mq_calls.specs.Words.{InDoubt, SenderData, Plain, Part, Change, Step, Do, Refuse, sender_or, sender_data, data_prepared, batch_of, is_full, need, refused_or, apply}
 use Rattle.mq_calls.specs.declared.state.Batch.{Batch}
 use Rattle.mq_calls.specs.declared.agents.PrepareFault.{PrepareFault}
-use Rattle.mq_calls.specs.declared.records.LogRecord.{LogRecord}
 use Rattle.mq_calls.specs.State.Change.{SetSender, DropBatch}
 use Rattle.mq_calls.specs.declared.agents.PrepareFault.TheVariants as prepare_faults
 use Rattle.mq_calls.specs.declared.deltas.Did.TheVariants as did

@@ -1,5 +1,5 @@
 -- One row that goes.
-use Rattle.std.proofs.Common.{◌≡◌, ℕ, ◌+◌, ◌<◌, ◌≤◌, Bool, true, false, cond, List, [], ◌∷◌, ◌++◌, length, refl, ap, arith, sym, subst, ◌∙◌}
+use Rattle.std.proofs.Common.{◌≡◌, ℕ, ◌+◌, ◌≤◌, Bool, true, false, cond, List, [], ◌∷◌, ◌++◌, length, refl, ap, arith, sym, ◌∙◌}
 use Rattle.std.specs.Prelude.{Option, Some, None, find, filter, not}
 use Rattle.std.specs.Option.{option_map}
 use Rattle.std.specs.Str.{bytes_eq}
@@ -12,7 +12,7 @@ use Rattle.mq_record.specs.Records.{record_bytes, unit_front, remove_bytes, IsRe
 use Rattle.mq_record.proofs.SizeLaws.{remove_whole}
 use Rattle.mq_queue.proofs.Edits.{same_is}
 use Rattle.mq_calls.specs.State.{Queue as StateQueue}
-use Rattle.mq_calls.specs.Words.{Ident, Message, Row, Plain, Part, Among, Step, Do, has_ident, is_persistent, stored, queue_in, kept_in, selects, keep, apply}
+use Rattle.mq_calls.specs.Words.{Ident, Row, Part, Among, Step, Do, has_ident, is_persistent, stored, queue_in, kept_in, selects, apply}
 use Rattle.mq_calls.specs.declared.records.Remove.{Remove}
 use Rattle.mq_calls.specs.State.Change.{Leave}
 use Rattle.mq_spec_manager.specs.Words.{Never, removal_part, removal_record}

@@ -7,7 +7,7 @@ use Rattle.mq_message.specs.declared.place.Holder.TheVariants as holders
 use Rattle.mq_calls.specs.declared.agents.Note.TheVariants as notes
 use Rattle.mq_calls.specs.declared.records.LogRecord.TheVariants as records
 use Rattle.mq_calls.specs.State.{Queue as StateQueue}
-use Rattle.mq_calls.specs.Words.{Ident, Row, Luw, Plain, Part, Do, SenderData, HeldBy, selects, sender_or, sender_data, apply, apply_all}
+use Rattle.mq_calls.specs.Words.{Ident, Row, Luw, Plain, Part, Do, SenderData, data_settled, settle_by, HeldBy, selects, sender_or, sender_data, apply, apply_all}
 use Rattle.mq_calls.specs.declared.records.Remove.{Remove}
 use Rattle.mq_calls.specs.State.Change.{SetSender}
 use Rattle.mq_spec_manager.specs.Agents.{CanHarden, harden, held_rows, settle_change, unit_of}
@@ -73,6 +73,11 @@ settled_part commit operator channel unit rows d = record {
   changes = settled_changes commit channel d;
   delta = settled_told commit operator channel unit rows;
 }
+
+-- nothing is in doubt then
+pub settled_none : (commit : Bool) (d : SenderData) → (data_settled (Some (settle_by commit)) d).in_doubt ≡ None
+settled_none true d = refl
+settled_none false d = refl
 
 -- the step
 pub settles_as : (commit operator : Bool) (channel : List ℕ) (unit : Luw) (rows : List Remove) (old : SenderData) (p : Plain) → rows ≡ held_rows (holders.Batch channel) p → old ≡ sender_or (sender_data channel p)

@@ -16,10 +16,10 @@ ghost use Rattle.mq_receive.specs.Committed.{batch_record, batch_part, side_afte
 use crate::filling::put_received;
 use crate::placing::{place_all, tell_landed, unexpect_all};
 use crate::rooms::make_room;
-use mq_agents::{Unwritten, agent_stop, aside_for, go_down};
+use mq_agents::{Unwritten, aside_for, go_down};
 use mq_base::{ChName, Items, NoMemory};
-use mq_calls::{AgentStop, Did, PlaceFault, ReceiverSide};
-use mq_core::{Arrival, Core, Parts, StoppedWrite};
+use mq_calls::{Did, ReceiverSide};
+use mq_core::{Arrival, Parts, StoppedWrite};
 use mq_disk::{Disk, Stop};
 use mq_sides::{KeptReceiver, receiver_data, swap_side, undo_side};
 use mq_sync::{ReceiverData, Unit};

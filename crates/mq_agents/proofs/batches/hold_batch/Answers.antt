@@ -1,5 +1,5 @@
 use Rattle.std.proofs.Common.{◌≡◌, ◌∙◌, sym, ap, subst, refl, arith}
-use Rattle.std.specs.Prelude.{ℕ, List, [], ◌∷◌, ◌++◌, length, map, take, Ok, ◌≤◌}
+use Rattle.std.specs.Prelude.{ℕ, List, [], ◌∷◌, ◌++◌, length, map, take, Ok}
 use Rattle.mq_message.specs.declared.place.Holder.TheVariants as holders
 use Rattle.mq_calls.specs.Words.{Ident, Holder, Plain, Step, ManagerValue, MeetsOrWants, Among, is_up, held_in, set_named, free_rows, apply_all}
 use Rattle.mq_calls.specs.declared.state.Batch.{Batch}

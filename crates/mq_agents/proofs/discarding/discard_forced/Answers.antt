@@ -1,12 +1,12 @@
-use Rattle.std.proofs.Common.{◌≡◌, ℕ, ◌+◌, ◌≤◌, ◌<◌, ◌∙◌, Bool, true, false, sym, ap, subst, refl, arith}
-use Rattle.std.specs.Prelude.{List, [], ◌∷◌, ◌++◌, Some, None, Ok, Err}
+use Rattle.std.proofs.Common.{◌≡◌, ℕ, ◌+◌, ◌<◌, ◌∙◌, Bool, true, sym, ap, subst, refl, arith}
+use Rattle.std.specs.Prelude.{List, [], ◌∷◌, ◌++◌, Some, Ok, Err}
 use Rattle.mq_base.specs.Outside.{Rose}
 use Rattle.mq_disk.specs.declared.cutter.Stop.{Stop}
 use Rattle.mq_log.specs.Force.{Stops}
 use Rattle.mq_calls.specs.declared.deltas.Did.TheVariants as did
 use Rattle.mq_calls.specs.declared.deltas.Why.TheVariants as whys
 use Rattle.mq_calls.specs.declared.records.LogRecord.TheVariants as records
-use Rattle.mq_calls.specs.Words.{ManagerValue, Plain, Noted, Step, MeetsOrWants, Do, Among, is_up, stored, freeze, logged, apply, apply_all}
+use Rattle.mq_calls.specs.Words.{ManagerValue, Plain, Noted, Step, MeetsOrWants, Do, Among, is_up, stored, freeze, logged, apply}
 use Rattle.mq_calls.specs.declared.deltas.Did.{Did}
 use Rattle.mq_calls.specs.declared.records.LogRecord.{LogRecord}
 use Rattle.mq_calls.specs.declared.commands.Halt.{Halt}
@@ -20,14 +20,13 @@ use Rattle.mq_core.specs.Views.{PartsValue, plain_of, frozen_of, noted}
 use Rattle.mq_core.specs.Ties.{Tied, mode_is_up}
 use Rattle.mq_core.proofs.MeetLaws.{mode_up}
 use Rattle.mq_core.proofs.PutLaws.{tied_roomier}
-use Rattle.mq_agents.specs.Ends.{by_agent, halt_of}
+use Rattle.mq_agents.specs.Ends.{halt_of}
 use Rattle.mq_agents.specs.Removing.{lasts}
-use Rattle.mq_agents.proofs.EndLaws.{free_as}
 use Rattle.mq_calls.specs.declared.commands.Halt.TheVariants as halts
-use Rattle.mq_agents.proofs.WriteLaws.{wanted_meets, wanted_told, broke_told, wrote_as, broke_as, halt_stopped, forced_tied, forced_seen, forced_mode, stopped_seen, stopped_tied}
+use Rattle.mq_agents.proofs.WriteLaws.{wanted_meets, broke_told, wrote_as, broke_as, halt_stopped, forced_tied, forced_seen, forced_mode, stopped_seen, stopped_tied}
 use Rattle.mq_agents.proofs.RemoveLaws.{one_part, one_step, discards_as, tied_removed, removed_view}
 use Rattle.mq_core.specs.Values.{CoreValue, manager_of, bodies_in, behind_record, pending_record}
-use Rattle.mq_core.proofs.WriteLaws.{forced_bodies, stopped_bodies, writes_as}
+use Rattle.mq_core.proofs.WriteLaws.{forced_bodies, roomier_bodies, stopped_bodies, writes_as}
 use Rattle.mq_agents.proofs.discarding.discard_forced.Goals as goal
 
 pub invariant_of-core-in-Err-force_remove : goal.invariant_of-core-in-Err-force_remove
@@ -203,6 +202,4 @@ returns-in-Err-make_record_room-clause-meets g c =
     (ap (λ (w : CoreValue). w.plain) v) (ap (λ (w : CoreValue). w.faults) v) (c.reserve.ensures.dids ∙ ap (λ (w : CoreValue). w.delta) v) (ap (λ (w : CoreValue). w.stopped) v)
 
 pub returns-in-Err-make_record_room-clause-told : goal.returns-in-Err-make_record_room-clause-told
-returns-in-Err-make_record_room-clause-told g c =
-    let v = c.core.view_is ∙ c.begin_call.ensures in
-    wanted_told c.args.core.now _ c.core.inside.parts c.make_record_room.new.parts (discard c.args.queue.now c.args.ident.now c.args.core.now.plain) c.in-Err-make_record_room.ensures.err (ap (λ (w : CoreValue). w.log) v) refl
+returns-in-Err-make_record_room-clause-told g c = roomier_bodies c.core.inside.parts c.make_record_room.new.parts c.in-Err-make_record_room.ensures.err ∙ ap (λ (w : CoreValue). w.log) (c.core.view_is ∙ c.begin_call.ensures)

@@ -1,28 +1,19 @@
-use Rattle.std.proofs.Common.{◌≡◌, ℕ, ◌+◌, ◌≤◌, ◌<◌, ◌∙◌, Bool, true, false, sym, ap, subst, refl, arith}
-use Rattle.std.specs.Prelude.{List, [], ◌∷◌, ◌++◌, Some, None, Ok, Err}
-use Rattle.mq_base.specs.Outside.{Rose}
-use Rattle.mq_disk.specs.declared.cutter.Stop.{Stop}
-use Rattle.mq_log.specs.Force.{Stops}
+use Rattle.std.proofs.Common.{◌≡◌, ◌+◌, ◌∙◌, Bool, false, sym, ap, subst, refl}
+use Rattle.std.specs.Prelude.{List, [], ◌∷◌, ◌++◌, Some, Ok}
 use Rattle.mq_calls.specs.declared.deltas.Did.TheVariants as did
 use Rattle.mq_calls.specs.declared.deltas.Why.TheVariants as whys
-use Rattle.mq_calls.specs.declared.records.LogRecord.TheVariants as records
-use Rattle.mq_calls.specs.Words.{ManagerValue, Plain, Noted, Step, MeetsOrWants, Do, Among, is_up, stored, freeze, logged, apply, apply_all}
+use Rattle.mq_calls.specs.Words.{ManagerValue, Plain, Step, MeetsOrWants, Do, Among, is_up, stored, apply}
 use Rattle.mq_calls.specs.declared.deltas.Did.{Did}
-use Rattle.mq_calls.specs.declared.records.LogRecord.{LogRecord}
-use Rattle.mq_calls.specs.declared.commands.Halt.{Halt}
 use Rattle.mq_calls.specs.State.Change.{Leave}
 use Rattle.mq_calls.specs.Meeting.Wants.{Anywhere}
 use Rattle.mq_spec_manager.specs.Words.{Never}
 use Rattle.mq_spec_manager.specs.Agents.{HasFreeRow, row_with, discard}
 use Rattle.mq_unit.specs.Told.{Telling}
-use Rattle.mq_core.specs.declared.parts.StoppedWrite.{StoppedWrite}
-use Rattle.mq_core.specs.Views.{PartsValue, plain_of, frozen_of, noted}
-use Rattle.mq_core.specs.Ties.{Tied, mode_is_up}
+use Rattle.mq_core.specs.Views.{PartsValue, plain_of, frozen_of}
+use Rattle.mq_core.specs.Ties.{Tied}
 use Rattle.mq_core.proofs.MeetLaws.{mode_up}
-use Rattle.mq_agents.specs.Ends.{by_agent, halt_of}
 use Rattle.mq_agents.specs.Removing.{lasts}
 use Rattle.mq_agents.proofs.EndLaws.{free_as}
-use Rattle.mq_agents.proofs.WriteLaws.{wrote_as, broke_as, halt_stopped, forced_tied, forced_seen, forced_mode, stopped_seen, stopped_tied}
 use Rattle.mq_agents.proofs.RemoveLaws.{one_part, one_step, discards_as, tied_removed, removed_view}
 use Rattle.mq_core.specs.Values.{CoreValue, manager_of, bodies_in}
 use Rattle.mq_core.proofs.WriteLaws.{writes_as}

@@ -1,8 +1,8 @@
-use Rattle.std.proofs.Common.{◌≡◌, ◌∙◌, List, [], length, sym, ap, subst, refl, arith}
-use Rattle.std.specs.Prelude.{Option, None, Ok, Err, Result, map}
+use Rattle.std.proofs.Common.{◌≡◌, ◌∙◌, List, [], length, sym, ap, subst, arith}
+use Rattle.std.specs.Prelude.{Option, None, Ok, Err}
 use Rattle.mq_disk.specs.declared.cutter.Stop.{Stop}
 use Rattle.mq_calls.specs.declared.deltas.Why.TheVariants as whys
-use Rattle.mq_calls.specs.Words.{Part, Plain, Step, ManagerValue, MeetsOrWants, Do}
+use Rattle.mq_calls.specs.Words.{Part, Step, ManagerValue, MeetsOrWants, Do}
 use Rattle.mq_calls.specs.declared.agents.AgentStop.{AgentStop}
 use Rattle.mq_spec_manager.specs.Words.{Never, expired_parts}
 use Rattle.mq_spec_manager.specs.Agents.{expire, expired_rows, queue_of_sender}

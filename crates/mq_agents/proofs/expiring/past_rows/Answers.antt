@@ -1,6 +1,6 @@
 use Rattle.std.proofs.Common.{List, None, ◌++◌, sym, ap, ◌∙◌, arith}
 use Rattle.mq_scan.specs.declared.scanning.Met.{Met}
-use Rattle.mq_agents.proofs.ExpireLaws.{past_left, past_start, past_next, past_none, past_end, left_start, left_next}
+use Rattle.mq_agents.proofs.ExpireLaws.{past_left, past_start, past_next, past_none, left_start, left_next}
 use Rattle.mq_agents.proofs.expiring.past_rows.Goals as goal
 
 pub loop-seen-init : goal.loop-seen-init

@@ -1,5 +1,5 @@
-use Rattle.std.proofs.Common.{◌≡◌, ℕ, ◌+◌, ◌≤◌, ◌<◌, ◌∙◌, true, sym, ap, subst, refl, arith}
-use Rattle.std.specs.Prelude.{List, Option, [], ◌∷◌, ◌++◌, length, Ok, Err, Some, None, find}
+use Rattle.std.proofs.Common.{◌≡◌, ℕ, ◌+◌, ◌<◌, ◌∙◌, true, sym, ap, subst, refl, arith}
+use Rattle.std.specs.Prelude.{List, Option, [], ◌∷◌, ◌++◌, length, Some, None, find}
 use Rattle.std.specs.Str.{bytes_eq}
 use Rattle.mq_calls.specs.Words.{Plain, is_up, set_receiver, receiver_in, receiver_data}
 use Rattle.mq_calls.specs.declared.deltas.Did.{Did}
@@ -9,7 +9,7 @@ use Rattle.mq_calls.specs.declared.deltas.Did.TheVariants as did
 use Rattle.mq_unit.specs.Told.{Telling}
 use Rattle.mq_sides.specs.Places.{AreByName}
 use Rattle.mq_core.specs.declared.parts.StoppedWrite.TheVariants as writes
-use Rattle.mq_core.specs.Views.{PartsValue, plain_of, frozen_of}
+use Rattle.mq_core.specs.Views.{PartsValue, frozen_of}
 use Rattle.mq_core.specs.Ties.{EndsReady, mode_is_up}
 use Rattle.mq_core.proofs.MeetLaws.{mode_up}
 use Rattle.mq_agents.specs.Written.{IsAside, drawn, is_live, live_need, with_receivers, note_record, noted_change}

@@ -1,5 +1,5 @@
 use Rattle.std.proofs.Common.{◌≡◌, ◌∙◌, true, false, sym, ap, refl}
-use Rattle.mq_calls.specs.Words.{Plain, ReceiverData, receiver_or, receiver_data}
+use Rattle.mq_calls.specs.Words.{ReceiverData, receiver_or, receiver_data}
 use Rattle.mq_calls.specs.State.Change.{SetReceiver}
 use Rattle.mq_calls.specs.declared.agents.Note.TheVariants as notes
 use Rattle.mq_agents.specs.Written.{is_live, noted_change}

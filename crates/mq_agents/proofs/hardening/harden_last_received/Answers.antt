@@ -1,4 +1,4 @@
-use Rattle.std.proofs.Common.{◌≡◌, ◌∙◌, true, false, sym, ap, refl}
+use Rattle.std.proofs.Common.{◌≡◌, ◌∙◌, sym, ap, refl}
 use Rattle.mq_sync.specs.declared.data.End.TheVariants as sync_ends
 use Rattle.mq_calls.specs.Words.{ReceiverData, receiver_or, receiver_data}
 use Rattle.mq_calls.specs.State.Change.{SetReceiver}

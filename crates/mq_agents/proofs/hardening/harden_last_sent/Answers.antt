@@ -1,4 +1,4 @@
-use Rattle.std.proofs.Common.{◌≡◌, ◌∙◌, true, false, sym, ap, refl}
+use Rattle.std.proofs.Common.{◌≡◌, ◌∙◌, true, sym, ap, refl}
 use Rattle.mq_sync.specs.declared.data.End.TheVariants as sync_ends
 use Rattle.mq_calls.specs.Words.{SenderData, sender_or, sender_data}
 use Rattle.mq_calls.specs.State.Change.{SetSender}

@@ -1,12 +1,11 @@
-use Rattle.std.proofs.Common.{◌≡◌, ℕ, ◌+◌, ◌≤◌, ◌<◌, ◌∙◌, true, sym, ap, subst, refl, arith}
-use Rattle.std.specs.Prelude.{List, [], ◌∷◌, ◌++◌, length, Ok, Err, Some}
+use Rattle.std.proofs.Common.{◌≡◌, ◌+◌, ◌<◌, ◌∙◌, true, sym, ap, refl, arith}
+use Rattle.std.specs.Prelude.{List, [], ◌∷◌, ◌++◌, Some}
 use Rattle.mq_calls.specs.Words.{Plain, is_up, set_receiver}
 use Rattle.mq_calls.specs.declared.deltas.Did.{Did}
 use Rattle.mq_calls.specs.State.Change.{SetReceiver}
 use Rattle.mq_calls.specs.declared.deltas.Did.TheVariants as did
 use Rattle.mq_unit.specs.Told.{Telling}
-use Rattle.mq_log.specs.State.{LogState}
-use Rattle.mq_core.specs.Views.{PartsValue, plain_of, frozen_of}
+use Rattle.mq_core.specs.Views.{PartsValue, frozen_of}
 use Rattle.mq_core.proofs.MeetLaws.{mode_up}
 use Rattle.mq_spec_manager.specs.Agents.{harden}
 use Rattle.mq_agents.specs.Written.{with_receivers, note_record, noted_change}

@@ -1,12 +1,11 @@
-use Rattle.std.proofs.Common.{◌≡◌, ℕ, ◌+◌, ◌≤◌, ◌<◌, ◌∙◌, sym, ap, subst, refl, arith}
-use Rattle.std.specs.Prelude.{List, [], ◌∷◌, ◌++◌, length, Ok, Err, Some}
+use Rattle.std.proofs.Common.{◌≡◌, ◌+◌, ◌<◌, ◌∙◌, sym, ap, refl, arith}
+use Rattle.std.specs.Prelude.{List, [], ◌∷◌, ◌++◌, Some}
 use Rattle.mq_calls.specs.Words.{Plain, is_up, set_sender}
 use Rattle.mq_calls.specs.declared.deltas.Did.{Did}
 use Rattle.mq_calls.specs.State.Change.{SetSender}
 use Rattle.mq_calls.specs.declared.deltas.Did.TheVariants as did
 use Rattle.mq_unit.specs.Told.{Telling}
-use Rattle.mq_log.specs.State.{LogState}
-use Rattle.mq_core.specs.Views.{PartsValue, plain_of, frozen_of}
+use Rattle.mq_core.specs.Views.{PartsValue, frozen_of}
 use Rattle.mq_core.proofs.MeetLaws.{mode_up}
 use Rattle.mq_agents.specs.Written.{with_senders, note_record, noted_change}
 use Rattle.mq_agents.proofs.WriteLaws.{hardened_tied, hardened_meets, hardening_ends, hardening_told, hardened_wrote, hardened_bodies, same_aside, tied_after, sender_hardened}

@@ -1,9 +1,8 @@
-use Rattle.std.proofs.Common.{◌≡◌, ℕ, ◌+◌, ◌≤◌, ◌∙◌, sym, ap, subst, refl, arith, inl, inr}
-use Rattle.std.specs.Prelude.{List, length, None, find, Ok, Err}
+use Rattle.std.proofs.Common.{◌≡◌, ℕ, ◌∙◌, ap, subst, refl, arith, inl, inr}
+use Rattle.std.specs.Prelude.{List, None, find, Ok, Err}
 use Rattle.std.specs.Str.{bytes_eq}
 use Rattle.mq_sides.specs.Places.{AreByName, standing}
 use Rattle.mq_base.specs.Outside.{Rose}
-use Rattle.mq_disk.specs.declared.cutter.Stop.{Stop}
 use Rattle.mq_log.specs.State.{LogState, Appended}
 use Rattle.mq_log.specs.Force.{Stops}
 use Rattle.mq_calls.specs.Words.{set_receiver}
@@ -12,7 +11,6 @@ use Rattle.mq_core.specs.declared.parts.ChannelEnds.{ChannelEnds}
 use Rattle.mq_core.specs.Views.{PartsValue}
 use Rattle.mq_core.specs.declared.parts.StoppedWrite.TheVariants as writes
 use Rattle.mq_core.specs.Forced.{downed}
-use Rattle.mq_agents.specs.Written.{with_receivers}
 use Rattle.mq_agents.proofs.hardening.write_receiver.Goals as goal
 
 roomier : LogState → ℕ → LogState

@@ -1,7 +1,6 @@
-use Rattle.std.proofs.Common.{◌≡◌, ℕ, ◌+◌, ◌≤◌, ◌∙◌, sym, ap, subst, refl, arith}
-use Rattle.std.specs.Prelude.{List, length, Ok, Err}
+use Rattle.std.proofs.Common.{◌≡◌, ℕ, ◌∙◌, ap, subst, refl, arith}
+use Rattle.std.specs.Prelude.{List, Ok, Err}
 use Rattle.mq_base.specs.Outside.{Rose}
-use Rattle.mq_disk.specs.declared.cutter.Stop.{Stop}
 use Rattle.mq_log.specs.State.{LogState, Appended}
 use Rattle.mq_log.specs.Force.{Stops}
 use Rattle.mq_calls.specs.Words.{set_sender}
@@ -10,7 +9,6 @@ use Rattle.mq_core.specs.declared.parts.ChannelEnds.{ChannelEnds}
 use Rattle.mq_core.specs.Views.{PartsValue}
 use Rattle.mq_core.specs.declared.parts.StoppedWrite.TheVariants as writes
 use Rattle.mq_core.specs.Forced.{downed}
-use Rattle.mq_agents.specs.Written.{with_senders}
 use Rattle.mq_agents.proofs.hardening.write_sender.Goals as goal
 
 roomier : LogState → ℕ → LogState

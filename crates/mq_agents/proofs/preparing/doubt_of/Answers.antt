@@ -1,4 +1,4 @@
-use Rattle.std.proofs.Common.{◌≡◌, sym, ◌∙◌}
+use Rattle.std.proofs.Common.{sym, ◌∙◌}
 use Rattle.mq_core.specs.Views.{plain_of}
 use Rattle.mq_agents.proofs.DoubtLaws.{full_as, can_doubt}
 use Rattle.mq_agents.proofs.preparing.doubt_of.Goals as goal

@@ -1,8 +1,7 @@
-use Rattle.std.proofs.Common.{◌≡◌, ℕ, ◌+◌, ◌<◌, ◌∙◌, ap, sym, arith}
-use Rattle.std.specs.Prelude.{length, true, ◌*◌}
+use Rattle.std.proofs.Common.{◌≡◌, ℕ, ◌+◌, ◌∙◌, ap, arith}
+use Rattle.std.specs.Prelude.{length, ◌*◌}
 use Rattle.mq_calls.specs.Words.{is_full}
 use Rattle.mq_core.specs.Views.{plain_of}
-use Rattle.mq_agents.proofs.FillLaws.{full_long}
 use Rattle.mq_agents.proofs.preparing.is_batch_full.Goals as goal
 
 pub returns-clause-full : goal.returns-clause-full

@@ -1,6 +1,6 @@
-use Rattle.std.proofs.Common.{◌≡◌, ℕ, ◌+◌, ◌≤◌, ◌<◌, ◌∙◌, true, false, sym, ap, subst, refl, arith}
+use Rattle.std.proofs.Common.{◌≡◌, ◌+◌, ◌<◌, ◌∙◌, true, false, sym, ap, subst, refl, arith}
 use Rattle.std.specs.Prelude.{List, [], ◌∷◌, ◌++◌, length, Some, Ok, Err}
-use Rattle.mq_calls.specs.Words.{ManagerValue, Plain, InDoubt, SenderData, Noted, Step, MeetsOrWants, Do, is_up, is_full, need, batch_of, sender_or, sender_data, data_prepared, logged, set_sender, apply, apply_all}
+use Rattle.mq_calls.specs.Words.{ManagerValue, Plain, InDoubt, SenderData, Noted, Step, MeetsOrWants, Do, is_up, is_full, need, batch_of, sender_or, sender_data, logged, set_sender, apply}
 use Rattle.mq_calls.specs.declared.deltas.Did.{Did}
 use Rattle.mq_calls.specs.declared.state.SenderSide.{SenderSide}
 use Rattle.mq_calls.specs.declared.agents.PrepareFault.{PrepareFault}
@@ -19,7 +19,7 @@ use Rattle.mq_core.proofs.MeetLaws.{mode_up}
 use Rattle.mq_core.proofs.PutLaws.{roomier_view, tied_roomier}
 use Rattle.mq_agents.specs.Written.{IsWhole, with_senders}
 use Rattle.mq_agents.specs.Removing.{IsDoubtOf, doubt_record}
-use Rattle.mq_agents.specs.Ends.{by_prepare, halt_of}
+use Rattle.mq_agents.specs.Ends.{halt_of}
 use Rattle.mq_agents.proofs.WriteLaws.{wanted_meets, wanted_told, roomy_more, more_aside, more_trans, hardened_tied, sender_hardened, unwritten_ends, unwritten_told, hardened_bodies, tied_after, wrote_as}
 use Rattle.mq_agents.proofs.DoubtLaws.{doubt_changes, doubt_part, prepares_as, doubt_noted, dropped_view, dropped_tied}
 use Rattle.mq_core.specs.Values.{CoreValue, manager_of, bodies_in, behind_record}

@@ -1,4 +1,4 @@
-use Rattle.std.proofs.Common.{◌≡◌, ℕ, ◌+◌, ◌≤◌, ◌∙◌, sym, ap, subst, refl, arith}
+use Rattle.std.proofs.Common.{ℕ, ◌∙◌, ap, subst, refl, arith}
 use Rattle.std.specs.Prelude.{List, length, Ok, Err}
 use Rattle.mq_base.specs.Outside.{Rose}
 use Rattle.mq_log.specs.State.{LogState, Appended}

@@ -1,7 +1,7 @@
 use Rattle.std.proofs.Common.{◌≡◌, ◌∙◌, false, sym, ap, subst, refl, arith}
-use Rattle.std.specs.Prelude.{ℕ, List, [], ◌∷◌, ◌++◌, map, Some, None, Option, Ok}
+use Rattle.std.specs.Prelude.{List, [], ◌∷◌, ◌++◌, map, Some, Ok}
 use Rattle.mq_message.specs.declared.place.Holder.TheVariants as holders
-use Rattle.mq_calls.specs.Words.{Ident, Holder, Plain, Step, ManagerValue, MeetsInRoom, HeldBy, is_up, released_in, batch_of, apply_all}
+use Rattle.mq_calls.specs.Words.{Ident, Plain, Step, ManagerValue, MeetsInRoom, HeldBy, is_up, released_in, batch_of, apply_all}
 use Rattle.mq_calls.specs.declared.state.Batch.{Batch}
 use Rattle.mq_calls.specs.declared.deltas.Did.{Did}
 use Rattle.mq_calls.specs.State.Change.{Release, DropBatch}
@@ -9,7 +9,6 @@ use Rattle.mq_calls.specs.Meeting.Wants.{Nowhere}
 use Rattle.mq_spec_manager.specs.Words.{Never}
 use Rattle.mq_spec_manager.specs.Agents.{release_batch, release_of}
 use Rattle.mq_unit.specs.Told.{Telling}
-use Rattle.mq_core.specs.declared.parts.ChannelEnds.{ChannelEnds}
 use Rattle.mq_core.specs.Views.{PartsValue, plain_of, frozen_of}
 use Rattle.mq_core.specs.Ties.{Tied}
 use Rattle.mq_core.specs.Values.{CoreValue, manager_of, bodies_in}

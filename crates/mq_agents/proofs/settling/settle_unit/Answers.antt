@@ -35,7 +35,7 @@ use Rattle.mq_agents.specs.Written.{drawn_need, with_senders}
 use Rattle.mq_agents.specs.Settling.{AreLone, doubt_before, freed_room, settled_changes, settled_told}
 use Rattle.mq_agents.proofs.HeldLaws.{few_held, lone}
 use Rattle.mq_agents.proofs.WriteLaws.{aside_bodies, aside_tied, aside_view, hardened_tied, hardened_bodies, rows_aside, sender_hardened, unwritten_ends, unwritten_told, tied_after, wanted_meets, wants_none, wrote_as}
-use Rattle.mq_agents.proofs.SettleLaws.{IsSettling, drawn_ends, drawn_spare, freed_ready, listed_more, no_short, settled_part, settled_tied, settled_done, settles_as, settled_noted, settling_aside, settling_ends, settling_live, settling_more, settling_none, settling_ready, settling_up, told_enough}
+use Rattle.mq_agents.proofs.SettleLaws.{IsSettling, drawn_ends, drawn_spare, freed_ready, listed_more, no_short, settled_none, settled_part, settled_tied, settled_done, settles_as, settled_noted, settling_aside, settling_ends, settling_live, settling_more, settling_none, settling_ready, settling_up, told_enough}
 use Rattle.mq_agents.proofs.ReadyLaws.{doubt_stood, drawn_within, listed_room, old_sender, sender_freed}
 use Rattle.mq_agents.proofs.settling.settle_unit.Goals as goal
 
@@ -139,7 +139,7 @@ draw_if-requires g c =
 
 pub kept_settled-kept-requires : goal.kept_settled-kept-requires
 kept_settled-kept-requires g c =
-    ap (λ (s : SenderSide). s.hardened.in_doubt) c.settled_side-side.ensures
+    ap (λ (s : SenderSide). s.hardened.in_doubt) c.settled_side-side.ensures ∙ settled_none c.args.commit (sender_or (sender_data c.args.channel.now (plain_of c.draw_if.new.parts)))
 
 pub write_settled-requires-clause-live : goal.write_settled-requires-clause-live
 write_settled-requires-clause-live g c =
@@ -173,7 +173,7 @@ write_settled-requires-clause-ends g c =
     let f : IsSettling had channel x k y = record { up = up; tied = c.core.invariant; more = more; drawn = c.draw_if.ensures; doubt = c.has_doubt-had.ensures } in
     let side : SenderSide = c.kept_settled-kept.result in
     let sided = c.kept_settled-kept.ensures ∙ c.settled_side-side.ensures in
-    settling_ends had channel x k y f side (ap (λ (s : SenderSide). s.channel) sided) (ap (λ (s : SenderSide). s.hardened.in_doubt) sided)
+    settling_ends had channel x k y f side (ap (λ (s : SenderSide). s.channel) sided) (ap (λ (s : SenderSide). s.hardened.in_doubt) sided ∙ settled_none c.args.commit (sender_or (sender_data c.args.channel.now (plain_of c.draw_if.new.parts))))
 
 pub invariant_of-core-in-Err-write_settled : goal.invariant_of-core-in-Err-write_settled
 invariant_of-core-in-Err-write_settled g c =
@@ -197,7 +197,7 @@ invariant_of-core-in-Err-write_settled g c =
     let side : SenderSide = c.kept_settled-kept.result in
     let sided = c.kept_settled-kept.ensures ∙ c.settled_side-side.ensures in
     let named : side.channel ≡ channel = ap (λ (s : SenderSide). s.channel) sided in
-    let settled : side.hardened.in_doubt ≡ None = ap (λ (s : SenderSide). s.hardened.in_doubt) sided in
+    let settled : side.hardened.in_doubt ≡ None = ap (λ (s : SenderSide). s.hardened.in_doubt) sided ∙ settled_none c.args.commit (sender_or (sender_data c.args.channel.now (plain_of c.draw_if.new.parts))) in
     let e : ChannelEnds = with_senders (set_sender side y.ends.senders) y.ends in
     let z : PartsValue = c.write_settled.new.parts in
     let m = settling_aside had channel x k y f in
@@ -227,7 +227,7 @@ returns-in-Err-write_settled-clause-wants g c =
     let side : SenderSide = c.kept_settled-kept.result in
     let sided = c.kept_settled-kept.ensures ∙ c.settled_side-side.ensures in
     let named : side.channel ≡ channel = ap (λ (s : SenderSide). s.channel) sided in
-    let settled : side.hardened.in_doubt ≡ None = ap (λ (s : SenderSide). s.hardened.in_doubt) sided in
+    let settled : side.hardened.in_doubt ≡ None = ap (λ (s : SenderSide). s.hardened.in_doubt) sided ∙ settled_none c.args.commit (sender_or (sender_data c.args.channel.now (plain_of c.draw_if.new.parts))) in
     let e : ChannelEnds = with_senders (set_sender side y.ends.senders) y.ends in
     let z : PartsValue = c.write_settled.new.parts in
     let m = settling_aside had channel x k y f in
@@ -259,7 +259,7 @@ returns-in-Err-write_settled-clause-meets g c =
     let side : SenderSide = c.kept_settled-kept.result in
     let sided = c.kept_settled-kept.ensures ∙ c.settled_side-side.ensures in
     let named : side.channel ≡ channel = ap (λ (s : SenderSide). s.channel) sided in
-    let settled : side.hardened.in_doubt ≡ None = ap (λ (s : SenderSide). s.hardened.in_doubt) sided in
+    let settled : side.hardened.in_doubt ≡ None = ap (λ (s : SenderSide). s.hardened.in_doubt) sided ∙ settled_none c.args.commit (sender_or (sender_data c.args.channel.now (plain_of c.draw_if.new.parts))) in
     let e : ChannelEnds = with_senders (set_sender side y.ends.senders) y.ends in
     let z : PartsValue = c.write_settled.new.parts in
     let m = settling_aside had channel x k y f in
@@ -298,7 +298,7 @@ returns-in-Err-write_settled-clause-told g c =
     let side : SenderSide = c.kept_settled-kept.result in
     let sided = c.kept_settled-kept.ensures ∙ c.settled_side-side.ensures in
     let named : side.channel ≡ channel = ap (λ (s : SenderSide). s.channel) sided in
-    let settled : side.hardened.in_doubt ≡ None = ap (λ (s : SenderSide). s.hardened.in_doubt) sided in
+    let settled : side.hardened.in_doubt ≡ None = ap (λ (s : SenderSide). s.hardened.in_doubt) sided ∙ settled_none c.args.commit (sender_or (sender_data c.args.channel.now (plain_of c.draw_if.new.parts))) in
     let e : ChannelEnds = with_senders (set_sender side y.ends.senders) y.ends in
     let z : PartsValue = c.write_settled.new.parts in
     let m = settling_aside had channel x k y f in
@@ -345,7 +345,7 @@ settle_rows-requires-clause-listed g c =
     let side : SenderSide = c.kept_settled-kept.result in
     let sided = c.kept_settled-kept.ensures ∙ c.settled_side-side.ensures in
     let named : side.channel ≡ channel = ap (λ (s : SenderSide). s.channel) sided in
-    let settled : side.hardened.in_doubt ≡ None = ap (λ (s : SenderSide). s.hardened.in_doubt) sided in
+    let settled : side.hardened.in_doubt ≡ None = ap (λ (s : SenderSide). s.hardened.in_doubt) sided ∙ settled_none c.args.commit (sender_or (sender_data c.args.channel.now (plain_of c.draw_if.new.parts))) in
     let e : ChannelEnds = with_senders (set_sender side y.ends.senders) y.ends in
     let z : PartsValue = c.write_settled.new.parts in
     let m = settling_aside had channel x k y f in
@@ -381,7 +381,7 @@ settle_rows-requires-clause-lone g c =
     let side : SenderSide = c.kept_settled-kept.result in
     let sided = c.kept_settled-kept.ensures ∙ c.settled_side-side.ensures in
     let named : side.channel ≡ channel = ap (λ (s : SenderSide). s.channel) sided in
-    let settled : side.hardened.in_doubt ≡ None = ap (λ (s : SenderSide). s.hardened.in_doubt) sided in
+    let settled : side.hardened.in_doubt ≡ None = ap (λ (s : SenderSide). s.hardened.in_doubt) sided ∙ settled_none c.args.commit (sender_or (sender_data c.args.channel.now (plain_of c.draw_if.new.parts))) in
     let e : ChannelEnds = with_senders (set_sender side y.ends.senders) y.ends in
     let z : PartsValue = c.write_settled.new.parts in
     let m = settling_aside had channel x k y f in
@@ -412,7 +412,7 @@ tell_rows-requires g c =
     let side : SenderSide = c.kept_settled-kept.result in
     let sided = c.kept_settled-kept.ensures ∙ c.settled_side-side.ensures in
     let named : side.channel ≡ channel = ap (λ (s : SenderSide). s.channel) sided in
-    let settled : side.hardened.in_doubt ≡ None = ap (λ (s : SenderSide). s.hardened.in_doubt) sided in
+    let settled : side.hardened.in_doubt ≡ None = ap (λ (s : SenderSide). s.hardened.in_doubt) sided ∙ settled_none c.args.commit (sender_or (sender_data c.args.channel.now (plain_of c.draw_if.new.parts))) in
     let e : ChannelEnds = with_senders (set_sender side y.ends.senders) y.ends in
     let z : PartsValue = c.write_settled.new.parts in
     let m = settling_aside had channel x k y f in
@@ -460,7 +460,7 @@ tell-requires g c =
     let side : SenderSide = c.kept_settled-kept.result in
     let sided = c.kept_settled-kept.ensures ∙ c.settled_side-side.ensures in
     let named : side.channel ≡ channel = ap (λ (s : SenderSide). s.channel) sided in
-    let settled : side.hardened.in_doubt ≡ None = ap (λ (s : SenderSide). s.hardened.in_doubt) sided in
+    let settled : side.hardened.in_doubt ≡ None = ap (λ (s : SenderSide). s.hardened.in_doubt) sided ∙ settled_none c.args.commit (sender_or (sender_data c.args.channel.now (plain_of c.draw_if.new.parts))) in
     let e : ChannelEnds = with_senders (set_sender side y.ends.senders) y.ends in
     let z : PartsValue = c.write_settled.new.parts in
     let m = settling_aside had channel x k y f in
@@ -510,7 +510,7 @@ free_rows-requires g c =
     let side : SenderSide = c.kept_settled-kept.result in
     let sided = c.kept_settled-kept.ensures ∙ c.settled_side-side.ensures in
     let named : side.channel ≡ channel = ap (λ (s : SenderSide). s.channel) sided in
-    let settled : side.hardened.in_doubt ≡ None = ap (λ (s : SenderSide). s.hardened.in_doubt) sided in
+    let settled : side.hardened.in_doubt ≡ None = ap (λ (s : SenderSide). s.hardened.in_doubt) sided ∙ settled_none c.args.commit (sender_or (sender_data c.args.channel.now (plain_of c.draw_if.new.parts))) in
     let e : ChannelEnds = with_senders (set_sender side y.ends.senders) y.ends in
     let z : PartsValue = c.write_settled.new.parts in
     let m = settling_aside had channel x k y f in
@@ -551,7 +551,7 @@ invariant_of-core-2 g c =
     let side : SenderSide = c.kept_settled-kept.result in
     let sided = c.kept_settled-kept.ensures ∙ c.settled_side-side.ensures in
     let named : side.channel ≡ channel = ap (λ (s : SenderSide). s.channel) sided in
-    let settled : side.hardened.in_doubt ≡ None = ap (λ (s : SenderSide). s.hardened.in_doubt) sided in
+    let settled : side.hardened.in_doubt ≡ None = ap (λ (s : SenderSide). s.hardened.in_doubt) sided ∙ settled_none c.args.commit (sender_or (sender_data c.args.channel.now (plain_of c.draw_if.new.parts))) in
     let e : ChannelEnds = with_senders (set_sender side y.ends.senders) y.ends in
     let z : PartsValue = c.write_settled.new.parts in
     let m = settling_aside had channel x k y f in
@@ -600,7 +600,7 @@ returns-clause-meets g c =
     let side : SenderSide = c.kept_settled-kept.result in
     let sided = c.kept_settled-kept.ensures ∙ c.settled_side-side.ensures in
     let named : side.channel ≡ channel = ap (λ (s : SenderSide). s.channel) sided in
-    let settled : side.hardened.in_doubt ≡ None = ap (λ (s : SenderSide). s.hardened.in_doubt) sided in
+    let settled : side.hardened.in_doubt ≡ None = ap (λ (s : SenderSide). s.hardened.in_doubt) sided ∙ settled_none c.args.commit (sender_or (sender_data c.args.channel.now (plain_of c.draw_if.new.parts))) in
     let e : ChannelEnds = with_senders (set_sender side y.ends.senders) y.ends in
     let z : PartsValue = c.write_settled.new.parts in
     let m = settling_aside had channel x k y f in
@@ -664,7 +664,7 @@ returns-clause-told g c =
     let side : SenderSide = c.kept_settled-kept.result in
     let sided = c.kept_settled-kept.ensures ∙ c.settled_side-side.ensures in
     let named : side.channel ≡ channel = ap (λ (s : SenderSide). s.channel) sided in
-    let settled : side.hardened.in_doubt ≡ None = ap (λ (s : SenderSide). s.hardened.in_doubt) sided in
+    let settled : side.hardened.in_doubt ≡ None = ap (λ (s : SenderSide). s.hardened.in_doubt) sided ∙ settled_none c.args.commit (sender_or (sender_data c.args.channel.now (plain_of c.draw_if.new.parts))) in
     let e : ChannelEnds = with_senders (set_sender side y.ends.senders) y.ends in
     let z : PartsValue = c.write_settled.new.parts in
     let m = settling_aside had channel x k y f in

@@ -2,7 +2,7 @@ use Rattle.std.proofs.Common.{◌++◌, ◌+◌, ◌*◌, ◌<◌, ◌^◌, ap, 
 use Rattle.std.specs.Prelude.{List, Ok, Err, flat_map, length, ◌∷◌, []}
 use Rattle.std.specs.List.{AllByRecursion}
 use Rattle.mq_calls.specs.declared.deltas.Did.TheVariants as did
-use Rattle.mq_calls.specs.Words.{Plain, need}
+use Rattle.mq_calls.specs.Words.{need}
 use Rattle.mq_calls.specs.declared.deltas.Did.{Did}
 use Rattle.mq_core.specs.declared.parts.Arrival.{Arrival}
 use Rattle.mq_core.specs.Forced.{IsForced}
@@ -10,7 +10,7 @@ use Rattle.mq_core.specs.Views.{PartsValue, plain_of}
 use Rattle.mq_core.specs.Writes.{arrival_dids}
 use Rattle.mq_receive.specs.Filling.{CanStand}
 use Rattle.mq_receive.specs.Placed.{AreLanding, IsAwaited}
-use Rattle.mq_receive.specs.Committed.{batch_record, batch_part, side_after, with_side, WritesBatch}
+use Rattle.mq_receive.specs.Committed.{batch_record, batch_part, with_side, WritesBatch}
 use Rattle.mq_calls.specs.declared.state.ReceiverSide.{ReceiverSide}
 use Rattle.mq_get.proofs.PathLaws.{more_same}
 use Rattle.mq_receive.proofs.CommitLaws.{unchanged, way_lands, done}

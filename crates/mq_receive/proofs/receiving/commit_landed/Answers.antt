@@ -24,8 +24,8 @@ commit-requires-clause-ends g c =
     let x = c.core.inside.parts in
     c.in-Ok.ensures.ready (c.core.invariant.up (mode_up (frozen_of x) x.mode (ap (λ (w : CoreValue). is_up w.plain.running) (c.core.view_is ∙ c.begin_call.ensures) ∙ c.requires.up))).ends
 
-pub invariant_of-core-in-Err : goal.invariant_of-core-in-Err
-invariant_of-core-in-Err g c = tied_roomier c.core.inside.parts c.aside.new.parts c.aside.ensures.more c.core.invariant
+pub invariant_of-core : goal.invariant_of-core
+invariant_of-core g c = tied_roomier c.core.inside.parts c.aside.new.parts c.aside.ensures.more c.core.invariant
 
 pub returns-in-Err-clause-meets : goal.returns-in-Err-clause-meets
 returns-in-Err-clause-meets g c =
@@ -65,8 +65,8 @@ returns-in-Err-commit-clause-told g c =
     c.agent_of-agent.ensures
     (record { plain = roomier_view c.core.inside.parts c.aside.new.parts c.aside.ensures.more ∙ ap (λ (w : CoreValue). w.plain) v; faults = ap (λ (q : PartsValue). q.log.faults) c.aside.ensures.more.same ∙ ap (λ (w : CoreValue). w.faults) v; log = roomier_bodies c.core.inside.parts c.aside.new.parts c.aside.ensures.more ∙ ap (λ (w : CoreValue). w.log) v; told = ap (λ (w : CoreValue). w.delta) v }) c.in-Err-commit.ensures
 
-pub invariant_of-core : goal.invariant_of-core
-invariant_of-core g c = c.in-Ok-commit.ensures.tied
+pub invariant_of-core-in-Ok-commit : goal.invariant_of-core-in-Ok-commit
+invariant_of-core-in-Ok-commit g c = c.in-Ok-commit.ensures.tied
 
 pub returns-clause-meets : goal.returns-clause-meets
 returns-clause-meets g c =
