@@ -45,6 +45,15 @@ unbound_tied channel x y e t =
     let b : BondsKept = record x.ends.bound { bound = filter (λ (other : List ℕ). not (bytes_eq channel other)) x.ends.bound.bound } in
     subst Tied (sym e) (tied_ends (with_bonds x.ends b) x (bonds_ready b x.ends x.log.spare (λ name h. h)) t)
 
+abbrev pub without_bound_of : List ℕ → Plain → Plain
+without_bound_of channel p = record p { channels = record p.channels { bound = filter (λ (other : List ℕ). not (bytes_eq channel other)) p.channels.bound } }
+
+pub unbound_view : (channel : List ℕ) (x y : PartsValue) → mode_is_up x.mode ≡ true → y ≡ receiver_unbound channel x → plain_of y ≡ without_bound_of channel (plain_of x)
+unfolding with_ends with_bonds
+unbound_view channel x y up e =
+    let b : BondsKept = record x.ends.bound { bound = filter (λ (other : List ℕ). not (bytes_eq channel other)) x.ends.bound.bound } in
+    ap plain_of e ∙ ends_view (with_bonds x.ends b) x up
+
 -- a receiver that has hardened something has its place
 seat_in : (seats : List (List ℕ)) (channel : List ℕ) (rs : List ReceiverSide) (o : Option ReceiverSide) → AllByRecursion (λ (r : ReceiverSide). has_seat r.channel seats ≡ true) rs → find (λ (r : ReceiverSide). bytes_eq channel r.channel) rs ≡ o
     → is_some (option_map (λ (r : ReceiverSide). r.hardened) o) ≡ true → has_seat channel seats ≡ true

@@ -130,10 +130,8 @@ impl Bonds {
     }
 
     /// A channel isn't bound from now on; it keeps its place. It takes no memory.
-    #[tactic(auto, using(crate::proofs::BondLaws::unbound_none, crate::proofs::BondLaws::seats_back, crate::proofs::BondLaws::bound_unset, crate::proofs::BondLaws::by_bond, crate::proofs::BondLaws::seats_sorted))]
     pub fn unbind(&mut self, channel: &ChName)
-        ensures bound { self.new.bound ≡ filter (λ (other : List ℕ). not (bytes_eq channel.now other)) self.old.bound }
-        ensures seats { self.new.seats ≡ self.old.seats }
+        ensures { self.new ≡ record self.old { bound = filter (λ (other : List ℕ). not (bytes_eq channel.now other)) self.old.bound } }
     {
         if !has_seat(&self.bonds, channel) {
             return;
@@ -153,7 +151,6 @@ impl Bonds {
     /// # Errors
     ///
     /// No memory; nothing has changed.
-    #[tactic(auto, using(crate::proofs::BondLaws::bound_placed, crate::proofs::BondLaws::kept_by_set, crate::proofs::BondLaws::there_by_set, crate::proofs::BondLaws::seats_sorted, crate::proofs::BondLaws::by_bond, crate::proofs::BondLaws::no_seat))]
     pub fn seat(&mut self, channel: &ChName) -> Result<(), NoMemory>
         ensures bound { self.new.bound ≡ self.old.bound }
         ensures seats { KeepsSeats self.old.seats self.new.seats }
@@ -176,8 +173,7 @@ impl Bonds {
 
     /// No channel is bound any more; each keeps its place. It takes no memory.
     pub fn clear(&mut self)
-        ensures bound { self.new.bound ≡ [] }
-        ensures seats { self.new.seats ≡ self.old.seats }
+        ensures { self.new ≡ record self.old { bound = [] } }
     {
         clear_all(&mut self.bonds);
     }

@@ -6,8 +6,8 @@ use Rattle.mq_sides.specs.Places.{AreByName}
 use Rattle.mq_sides.proofs.BondLaws.{bound_set, by_bond, kept_by_set, keeps_all, no_seat, seats_sorted}
 use Rattle.mq_sides.proofs.bonds.Bonds.bind.Goals as goal
 
-pub invariant_of-self : goal.invariant_of-self
-invariant_of-self c =
+pub invariant_of-self-2 : goal.invariant_of-self-2
+invariant_of-self-2 c =
     let new : Bond = record { channel = c.args.channel.now; bound = true } in
     subst (λ (bs : List Bond). AreByName (λ (n : List ℕ). n) (seats_of bs)) (sym c.in-Ok.ensures.ok) (seats_sorted new c.self.inside.bonds c.self.invariant)
 
