@@ -132,7 +132,7 @@ halt_tied parts x y u (halts.Stopped by) t h = h.tied
 
 -- nothing has changed
 pub more_same : (x : PartsValue) → HasMoreRoom x x
-more_same x = record { same = refl; log = omega arith; spare = omega arith; rows = omega arith; body = omega arith }
+more_same x = record { same = refl; log = omega arith; spare = omega arith; rows = omega arith; seats = λ name e. e; body = omega arith }
 
 -- a cursor goes to a row
 cursor_part : ℕ → ℕ → Place → Part
