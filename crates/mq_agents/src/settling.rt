@@ -107,11 +107,7 @@ fn free_rows<D: Disk>(parts: &mut Parts<D>, less: usize)
 }
 
 /// Names the rows that a holder has, queue by queue. It walks over the rows of all queues.
-fn all_held<D: Disk>(
-    parts: &Parts<D>,
-    by: &Holder,
-    rows: &mut RowRoom,
-) -> Result<(), NoMemory>
+fn all_held<D: Disk>(parts: &Parts<D>, by: &Holder, rows: &mut RowRoom) -> Result<(), NoMemory>
     ensures rows { OnOk result (rows.new.rows ≡ rows.old.rows ++ held_rows by.now (plain_of parts.now)) }
     ensures room { RoomStays rows.old rows.new }
     ensures memory { OnErr result (rows.old.room < length (held_rows by.now (plain_of parts.now))) }

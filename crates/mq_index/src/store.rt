@@ -331,7 +331,13 @@ impl Store {
         match kind {
             Kind::Lane => false,
             Kind::MsgId | Kind::CorrelId => {
-                if has_lane(self.index.chain(Kind::Lane), &self.slots, &self.marks, lane, want) {
+                if has_lane(
+                    self.index.chain(Kind::Lane),
+                    &self.slots,
+                    &self.marks,
+                    lane,
+                    want,
+                ) {
                     false
                 } else {
                     true

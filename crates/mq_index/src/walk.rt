@@ -226,13 +226,7 @@ fn start_for(
 }
 
 /// Whether a lane has a row.
-pub fn has_lane(
-    lanes: &Chain,
-    slots: &[Option<Row>],
-    marks: &[u64],
-    lane: u8,
-    want: &Want,
-) -> bool
+pub fn has_lane(lanes: &Chain, slots: &[Option<Row>], marks: &[u64], lane: u8, want: &Want) -> bool
     requires chain { IsChainOf (keyed Lane slots.now) lanes.now }
     requires marked { (arrivals : ℕ) × AreMarked marks.now slots.now arrivals }
     ensures { result ≡ false → NoneAtAll (is_taken lane true want.now None) slots.now }

@@ -104,7 +104,10 @@ impl Bonds {
     pub fn is_bound(&self, channel: &ChName) -> bool
         ensures { result ≡ list_any (bytes_eq channel.now) self.now.bound }
     {
-        self.bonds.as_slice().iter().any(|bond| is_bond(bond, channel))
+        self.bonds
+            .as_slice()
+            .iter()
+            .any(|bond| is_bond(bond, channel))
     }
 
     /// A channel is bound from now on. It takes no memory where the channel has its place.
