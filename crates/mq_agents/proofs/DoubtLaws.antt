@@ -51,7 +51,7 @@ dropped_view channel z up = ends_view (without_one channel z.ends) z up
 
 pub dropped_tied : (channel : List ℕ) (z : PartsValue) → Tied z → Tied (record z { ends = without_one channel z.ends })
 unfolding with_ends
-dropped_tied channel z t = tied_ends (without_one channel z.ends) z (λ w. record { log = w.log; rows = w.rows; senders = w.senders; receivers = w.receivers }) t
+dropped_tied channel z t = tied_ends (without_one channel z.ends) z (λ w. record { log = w.log; rows = w.rows; senders = w.senders; receivers = w.receivers; seats = w.seats }) t
 
 -- a batch that has no room, and one that has
 pub full_as : (channel : List ℕ) (last : ℕ) (p : Plain) (b : Batch) → batch_of channel p.channels.batches ≡ Some b → is_full (need (prepared_record channel last b)) p ≡ true → prepare channel last p ≡ Refuse prepare_faults.NoRoom

@@ -1,5 +1,5 @@
 -- The rows that a channel's batch holds are those that its unit in doubt lists, each once.
-use Rattle.std.proofs.Common.{ℕ, zero, suc, ◌≤◌, ◌≡◌, ◌≢◌, ◌⊎◌, Bool, true, false, List, [], ◌∷◌, ◌++◌, length, refl, ap, sym, subst, ◌∙◌, arith, inl, inr}
+use Rattle.std.proofs.Common.{ℕ, zero, suc, ◌<◌, ◌≤◌, ◌≡◌, ◌≢◌, ◌⊎◌, Bool, true, false, List, [], ◌∷◌, ◌++◌, length, refl, ap, sym, subst, ◌∙◌, arith, inl, inr}
 use Rattle.std.specs.Prelude.{Option, Some, None, if◌then◌else◌, take, map, filter, not, ◌&&◌, ◌||◌}
 use Rattle.std.specs.Str.{bytes_eq}
 use Rattle.std.specs.List.{flat_map, list_any}
@@ -16,6 +16,7 @@ use Rattle.mq_calls.specs.declared.state.Batch.{Batch}
 use Rattle.mq_calls.specs.declared.records.Remove.{Remove}
 use Rattle.mq_calls.specs.State.Which.{Among}
 use Rattle.mq_calls.specs.Changes.{selects, release_if}
+use Rattle.mq_calls.specs.Recovery.{listed}
 use Rattle.mq_calls.specs.Reads.{queue_in, stored, batch_of, sender_data, in_doubt_of}
 use Rattle.mq_spec_manager.specs.Agents.{held_on, held_rows}
 use Rattle.mq_place.specs.States.{QueueState, queues_of, on_queue, on_queues}
@@ -23,7 +24,7 @@ use Rattle.mq_core.specs.Views.{PartsValue}
 use Rattle.mq_core.specs.Placing.{with_states}
 use Rattle.mq_law_manager.specs.View.{view}
 use Rattle.mq_law_manager.specs.Facts.{Mem, Chain, Differ, ident_of, IsOf, AreNamed, Sound}
-use Rattle.mq_agents.specs.Settling.{AreLone, row_in, each_in, settled_in, row_settled, each_settled, rows_settled}
+use Rattle.mq_agents.specs.Settling.{AreLone, IsShortOf, none_named, row_in, each_in, settled_in, row_settled, each_settled, rows_settled, with_named}
 use Rattle.mq_law_manager.proofs.Lists.{mem_append, mem_before, mem_behind, ident_yes, ident_self, name_self, one_row}
 use Rattle.mq_law_manager.proofs.Named.{name_turned}
 use Rattle.mq_law_manager.proofs.Batches.{by_batch}
@@ -179,6 +180,19 @@ doubted channel p d s n e r m =
     let is : Mem row.message.ident d.idents = subst (λ (x : Option InDoubt). IsOf h.queue.name row.message.ident None x) e (subst (λ (x : Option Batch). IsOf h.queue.name row.message.ident x (in_doubt_of (sender_data channel p))) none of) in
     subst (λ (i : Ident). Mem i d.idents) (sym (ap ident_at h.on.is)) is
 
+pub few_held : (channel : List ℕ) (p : Plain) (d : InDoubt) → Sound p → AreNamed p.queues → in_doubt_of (sender_data channel p) ≡ Some d → length (held_rows (holders.Batch channel) p) ≤ length d.idents
+few_held channel p d s n e = fewer ident_at (held_rows (holders.Batch channel) p) d.idents (all_differ (holders.Batch channel) p.queues (lone p s n)) (doubted channel p d s n e)
+
+-- Room that is less than what is named is less than what the unit lists.
+pub short_all : (channel : List ℕ) (p : Plain) (room less : ℕ) → Sound p → AreNamed p.queues → less ≤ room → room < length (held_rows (holders.Batch channel) p) → IsShortOf less (in_doubt_of (sender_data channel p))
+short_all channel p room less s n le short = λ d e. let few = few_held channel p d s n e in omega (arith, few, short, le)
+
+pub short_first : (o : Option InDoubt) (doubt : InDoubt) (held : List Remove) (room most less : ℕ) → Some doubt ≡ o → most ≡ length doubt.idents → less ≤ room → room < length (take most held) → IsShortOf less o
+short_first o doubt held room most less is long le short = λ d e.
+    let n = ap (λ (x : Option InDoubt). length (listed x)) (is ∙ e) in
+    let t = length-take most held in
+    omega (arith, n, long, le, short, t)
+
 -- So many on one queue are all.
 
 append_none : {A : Type 0} (ys : List A) → ys ++ [] ≡ ys
@@ -226,7 +240,7 @@ pub all_listed : (channel name : List ℕ) (p : Plain) (d : InDoubt) → Sound p
     → take (length d.idents) (held_on (holders.Batch channel) (stored name p)) ≡ held_rows (holders.Batch channel) p
 all_listed channel name p d s n e full =
     let by = holders.Batch channel in
-    let few = fewer ident_at (held_rows by p) d.idents (all_differ by p.queues (lone p s n)) (doubted channel p d s n e) in
+    let few = few_held channel p d s n e in
     elim (stored_there name p.queues) [
       | inl m ↦ let w = part by (queue_in name p.queues) p.queues m in
           let long = ap length w.is in
@@ -412,3 +426,7 @@ unfolding with_them
 each_settles commit by x l =
     each_on commit (flat_map (held_on by) (queues_of x.queues.states)) x
     ∙ ap (with_them x) (on_same (each_in commit (flat_map (held_on by) (queues_of x.queues.states))) (settled_in commit by) x.queues.states (each_is commit by (queues_of x.queues.states) l))
+
+-- whatever rows are named meanwhile
+pub settled_back : (commit : Bool) (by : Holder) (x : PartsValue) → with_named x.ends.rows (rows_settled commit by (with_named none_named x)) ≡ rows_settled commit by x
+settled_back commit by x = refl

@@ -9,3 +9,4 @@ pub mod RemoveLaws
 pub mod FillLaws
 pub mod DoubtLaws
 pub mod SettleLaws
+pub mod BindLaws

@@ -29,11 +29,11 @@ use Rattle.mq_core.specs.declared.parts.StoppedWrite.TheVariants as writes
 use Rattle.mq_core.specs.Views.{PartsValue, plain_of, frozen_of, channels_of, noted}
 use Rattle.mq_core.specs.Writes.{FitsRecord}
 use Rattle.mq_core.specs.Ties.{EndsReady, Tied, mode_is_up}
-use Rattle.mq_core.specs.Forced.{IsForced, HasMoreRoom, downed}
+use Rattle.mq_core.specs.Forced.{IsForced, HasMoreRoom, KeepsSeats, downed, roomier_ends}
 use Rattle.mq_core.specs.Values.{CoreValue, LogBodies, WritesLog, IsRecordIn, AreRecords, bodies_in, behind_record, pending_record, wrote_all}
 use Rattle.mq_core.proofs.WriteLaws.{roomier_bodies}
 use Rattle.mq_core.proofs.PutLaws.{more_room, tied_roomier, roomier_view}
-use Rattle.mq_sides.specs.Kept.{RowsKept}
+use Rattle.mq_place.specs.Rooms.{RoomStays, RowsKept}
 use Rattle.mq_record.specs.Room.{Buffered}
 use Rattle.mq_agents.specs.Removing.{IsRoomy}
 use Rattle.mq_core.proofs.ForceLaws.{forced_view, frozen_view, tied_downed, stops_at}
@@ -87,40 +87,47 @@ more_aside x y m = record { same = m.same; body = m.body }
 pub same_aside : (x : PartsValue) → IsAside x x
 same_aside x = record { same = refl; body = omega arith }
 
-roomed : RowsKept → ℕ → ℕ → Buffered → PartsValue → PartsValue
-roomed k room spare b p = record p { ends = record p.ends { rows = k }; log = record p.log { room = room; spare = spare }; body = b }
+roomed : RowsKept → List (List ℕ) → ℕ → ℕ → Buffered → PartsValue → PartsValue
+roomed k seats room spare b p = record p { ends = record p.ends { rows = k; bound = record p.ends.bound { seats = seats } }; log = record p.log { room = room; spare = spare }; body = b }
 
 pub more_trans : (x y z : PartsValue) → HasMoreRoom x y → HasMoreRoom y z → HasMoreRoom x z
 unfolding roomed
 more_trans x y z m n = record {
-  same = n.same ∙ ap (roomed z.ends.rows z.log.room z.log.spare z.body) m.same;
+  same = n.same ∙ ap (roomed z.ends.rows z.ends.bound.seats z.log.room z.log.spare z.body) m.same;
   log = omega (arith, m.log, n.log);
   spare = omega (arith, m.spare, n.spare);
   rows = omega (arith, m.rows, n.rows);
+  seats = λ name e. n.seats name (m.seats name e);
   body = omega (arith, m.body, n.body);
 }
 
-pub roomed_more : (x y : PartsValue) (k : RowsKept) (room spare : ℕ) (b : Buffered) → y ≡ record x { ends = record x.ends { rows = k }; log = record x.log { room = room; spare = spare }; body = b }
-    → x.log.room ≤ room → x.log.spare ≤ spare → x.ends.rows.room ≤ k.room → x.body.room + length x.body.bytes ≤ b.room + length b.bytes → HasMoreRoom x y
+pub seated_more : (x y : PartsValue) (k : RowsKept) (seats : List (List ℕ)) (room spare : ℕ) (b : Buffered) → y ≡ record x { ends = record x.ends { rows = k; bound = record x.ends.bound { seats = seats } }; log = record x.log { room = room; spare = spare }; body = b }
+    → x.log.room ≤ room → x.log.spare ≤ spare → RoomStays x.ends.rows k → KeepsSeats x.ends.bound.seats seats → x.body.room + length x.body.bytes ≤ b.room + length b.bytes → HasMoreRoom x y
 unfolding roomed
-roomed_more x y k room spare b e more aside rows body =
+seated_more x y k seats room spare b e more aside rows keeps body =
+    let ns : seats ≡ y.ends.bound.seats = sym (ap (λ (p : PartsValue). p.ends.bound.seats) e) in
     let ks : k ≡ y.ends.rows = sym (ap (λ (p : PartsValue). p.ends.rows) e) in
     let rs : room ≡ y.log.room = sym (ap (λ (p : PartsValue). p.log.room) e) in
     let ss : spare ≡ y.log.spare = sym (ap (λ (p : PartsValue). p.log.spare) e) in
     let bs : b ≡ y.body = sym (ap (λ (p : PartsValue). p.body) e) in
     let long = ap (λ (b : Buffered). b.room + length b.bytes) bs in
-    let wide = ap (λ (r : RowsKept). r.room) ks in
+    let wide = ap (λ (r : RowsKept). r.room + length r.rows) ks in
     record {
-      same = e ∙ (λ i. roomed (ks i) (rs i) (ss i) (bs i) x);
+      same = e ∙ (λ i. roomed (ks i) (ns i) (rs i) (ss i) (bs i) x);
       log = omega (arith, rs, more);
       spare = omega (arith, ss, aside);
       rows = omega (arith, wide, rows);
+      seats = subst (KeepsSeats x.ends.bound.seats) ns keeps;
       body = omega (arith, long, body);
     }
 
+pub roomed_more : (x y : PartsValue) (k : RowsKept) (room spare : ℕ) (b : Buffered) → y ≡ record x { ends = record x.ends { rows = k }; log = record x.log { room = room; spare = spare }; body = b }
+    → x.log.room ≤ room → x.log.spare ≤ spare → RoomStays x.ends.rows k → x.body.room + length x.body.bytes ≤ b.room + length b.bytes → HasMoreRoom x y
+roomed_more x y k room spare b e more aside rows body = seated_more x y k x.ends.bound.seats room spare b e more aside rows (λ name h. h) body
+
 pub aside_trans : (x y z : PartsValue) → IsAside x y → IsAside y z → IsAside x z
 unfolding roomed
-aside_trans x y z m n = record { same = n.same ∙ ap (roomed z.ends.rows z.log.room z.log.spare z.body) m.same; body = omega (arith, m.body, n.body) }
+aside_trans x y z m n = record { same = n.same ∙ ap (roomed z.ends.rows z.ends.bound.seats z.log.room z.log.spare z.body) m.same; body = omega (arith, m.body, n.body) }
 
 pub rows_aside : (x y : PartsValue) (k : RowsKept) → y ≡ record x { ends = record x.ends { rows = k } } → IsAside x y
 unfolding roomed
@@ -130,11 +137,12 @@ rows_aside x y k e =
     let ss : x.log.spare ≡ y.log.spare = sym (ap (λ (p : PartsValue). p.log.spare) e) in
     let bs : x.body ≡ y.body = sym (ap (λ (p : PartsValue). p.body) e) in
     let long = ap (λ (b : Buffered). b.room + length b.bytes) bs in
-    record { same = e ∙ (λ i. roomed (ks i) (rs i) (ss i) (bs i) x); body = omega (arith, long) }
+    let ns : x.ends.bound.seats ≡ y.ends.bound.seats = sym (ap (λ (p : PartsValue). p.ends.bound.seats) e) in
+    record { same = e ∙ (λ i. roomed (ks i) (ns i) (rs i) (ss i) (bs i) x); body = omega (arith, long) }
 
 pub aside_tied : (x y : PartsValue) → IsAside x y → x.log.room ≤ y.log.room → EndsReady y.ends y.log.spare → Tied x → Tied y
 aside_tied x y m room ready t =
-    let e : y.ends ≡ record x.ends { rows = y.ends.rows } = ap (λ (p : PartsValue). p.ends) m.same in
+    let e : y.ends ≡ roomier_ends x.ends y.ends = ap (λ (p : PartsValue). p.ends) m.same in
     subst Tied (sym m.same) (record {
       up = λ u. let w = t.up u in record {
         live = w.live;

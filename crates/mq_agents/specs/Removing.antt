@@ -17,6 +17,7 @@ use Rattle.mq_calls.specs.declared.agents.AgentStop.TheVariants as agent_stops
 use Rattle.mq_place.specs.States.{on_queues}
 use Rattle.mq_core.specs.Views.{PartsValue}
 use Rattle.mq_core.specs.Placing.{with_states}
+use Rattle.mq_core.specs.Forced.{KeepsSeats}
 use Rattle.mq_core.specs.Writes.{FitsRecord}
 
 -- there is room for a record of so many bytes, and nothing else has changed
@@ -71,9 +72,15 @@ Doubts channel last p (Err (prepare_faults.Stop stop)) = stop ≡ agent_stops.No
 abbrev pub without_one : List ℕ → ChannelEnds → ChannelEnds
 without_one channel e = record e { batches = filter (λ (b : Batch). not (bytes_eq channel b.channel)) e.batches }
 
--- a receiver is bound
-abbrev pub receiver_bound : List ℕ → PartsValue → PartsValue
-receiver_bound channel x = record x { ends = record x.ends { bound = set_named (λ (name : List ℕ). name) channel x.ends.bound } }
+-- a receiver is bound, and each that had a place has one; nothing else has changed
+pub record IsBoundNow (channel : List ℕ) (x y : PartsValue) : Type 0 where
+  pub same : y ≡ record x { ends = record x.ends { bound = y.ends.bound } }
+  pub bound : y.ends.bound.bound ≡ set_named (λ (name : List ℕ). name) channel x.ends.bound.bound
+  pub seats : KeepsSeats x.ends.bound.seats y.ends.bound.seats
+
+-- a receiver isn't bound, and keeps its place
+abbrev pub receiver_unbound : List ℕ → PartsValue → PartsValue
+receiver_unbound channel x = record x { ends = record x.ends { bound = record x.ends.bound { bound = filter (λ (other : List ℕ). not (bytes_eq channel other)) x.ends.bound.bound } } }
 
 -- a batch holds rows
 abbrev pub batch_held : Batch → List Ident → PartsValue → PartsValue

@@ -1,22 +1,21 @@
 -- A unit in doubt that is settled.
-use Rattle.std.specs.Prelude.{◌≡◌, ℕ, Bool, true, false, List, [], ◌∷◌, ◌++◌, map, Some, Result, Ok, Err}
+use Rattle.std.specs.Prelude.{◌≡◌, ℕ, ◌+◌, ◌-◌, ◌<◌, Bool, true, false, List, [], ◌∷◌, ◌++◌, length, map, Option, Some, None}
 use Rattle.mq_message.specs.declared.place.Holder.{Holder}
 use Rattle.mq_calls.specs.declared.agents.Note.TheVariants as notes
 use Rattle.mq_calls.specs.declared.deltas.Did.TheVariants as did
 use Rattle.mq_calls.specs.Words.{Luw, Change, SenderData, Row, HeldBy, Among, kept_in, released_in, data_settled, settle_by}
 use Rattle.mq_calls.specs.declared.records.Remove.{Remove}
+use Rattle.mq_calls.specs.declared.state.SenderSide.{SenderSide}
+use Rattle.mq_sync.specs.declared.data.InDoubt.{InDoubt}
 use Rattle.mq_calls.specs.declared.deltas.Did.{Did}
 use Rattle.mq_calls.specs.State.{Queue}
 use Rattle.mq_calls.specs.State.Change.{SetSender}
 use Rattle.mq_spec_manager.specs.Agents.{settle_change, settle_did}
 use Rattle.mq_law_manager.specs.Facts.{Mem, Differ, ident_of, AreNamed}
 use Rattle.mq_place.specs.States.{on_queues}
-use Rattle.mq_core.specs.declared.parts.ChannelEnds.{ChannelEnds}
-use Rattle.mq_core.specs.declared.parts.StoppedWrite.{StoppedWrite}
+use Rattle.mq_place.specs.Rooms.{RowsKept}
 use Rattle.mq_core.specs.Views.{PartsValue}
 use Rattle.mq_core.specs.Placing.{with_states}
-use Rattle.mq_agents.specs.declared.hardening.Unwritten.{Unwritten}
-use Rattle.mq_agents.specs.Written.{IsWritten, Writes}
 
 -- the rows of a holder go, or are free again
 abbrev pub settled_in : (commit : Bool) → Holder → Queue → Queue
@@ -49,10 +48,25 @@ pub record AreLone (qs : List Queue) : Type 0 where
   pub once : (q : Queue) → Mem q qs → Differ ident_of q.rows
   pub alone : (q d : Queue) (h k : Row) → Mem q qs → Mem d qs → Mem h q.rows → Mem k d.rows → h.message.ident ≡ k.message.ident → q.name ≡ d.name
 
--- the record was forced, and the rows are handed back; or there was no memory, or its write was stopped
-abbrev pub WritesRows : List Remove → List ℕ → ChannelEnds → StoppedWrite → PartsValue → Result (List Remove) Unwritten → PartsValue → Type 0
-WritesRows rows bytes e write x (Ok back) z = (back ≡ rows) × IsWritten bytes e x (Ok tt) z
-WritesRows rows bytes e write x (Err unwritten) z = Writes bytes e write x (Err unwritten) z
+-- no row is named, and there is no room; other rows are named
+abbrev pub none_named : RowsKept
+none_named = record { rows = []; room = 0 }
+
+abbrev pub with_named : RowsKept → PartsValue → PartsValue
+with_named k x = record x { ends = record x.ends { rows = k } }
+
+-- none is named, and so much room is kept no longer
+abbrev pub freed_room : ℕ → RowsKept → RowsKept
+freed_room less k = record { rows = []; room = k.room + length k.rows - less }
+
+-- so much room is less than what a unit in doubt lists, where there is one
+abbrev pub IsShortOf : ℕ → Option InDoubt → Type 0
+IsShortOf room o = (d : InDoubt) → o ≡ Some d → room < length d.idents
+
+-- what a sender had in doubt that stood for a channel
+abbrev pub doubt_before : Option SenderSide → Option InDoubt
+doubt_before None = None
+doubt_before (Some s) = s.hardened.in_doubt
 
 -- what the step does and tells
 abbrev pub settled_changes : Bool → List ℕ → SenderData → List Change

@@ -22,7 +22,7 @@ use Rattle.mq_core.specs.Views.{PartsValue}
 use Rattle.mq_core.specs.Ties.{EndsReady}
 use Rattle.mq_core.specs.Writes.{FitsRecord}
 use Rattle.mq_core.specs.declared.parts.StoppedWrite.{StoppedWrite}
-use Rattle.mq_core.specs.Forced.{HasMoreRoom, downed}
+use Rattle.mq_core.specs.Forced.{HasMoreRoom, downed, roomier_ends}
 use Rattle.mq_calls.specs.declared.agents.AgentStop.TheVariants as agent_stops
 use Rattle.mq_agents.specs.Ends.{stopped_agent}
 use Rattle.mq_agents.specs.declared.hardening.Unwritten.{Unwritten}
@@ -81,7 +81,7 @@ WantsNone (Err agent_stops.Cut) = Unit {0}
 
 -- room was taken, set aside or drawn, and nothing else has changed
 pub record IsAside (x y : PartsValue) : Type 0 where
-  pub same : y ≡ record x { ends = record x.ends { rows = y.ends.rows }; log = record x.log { room = y.log.room; spare = y.log.spare }; body = y.body }
+  pub same : y ≡ record x { ends = roomier_ends x.ends y.ends; log = record x.log { room = y.log.room; spare = y.log.spare }; body = y.body }
   pub body : x.body.room + length x.body.bytes ≤ y.body.room + length y.body.bytes
 
 -- bytes that were set aside are room again

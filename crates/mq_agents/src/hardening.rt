@@ -9,6 +9,7 @@ ghost use Rattle.mq_record.specs.Records.{record_bytes};
 ghost use Rattle.mq_core.specs.declared.parts.StoppedWrite.TheVariants as writes;
 ghost use Rattle.mq_calls.specs.declared.state.ReceiverSide.{ReceiverSide as Receiver};
 ghost use Rattle.mq_sides.specs.Places.{AreByName, standing};
+ghost use Rattle.mq_sides.specs.Bonds.{has_seat};
 ghost use Rattle.mq_core.specs.Ties.{EndsReady};
 ghost use Rattle.mq_core.specs.Forced.{HasMoreRoom, downed};
 ghost use Rattle.mq_core.specs.Views.{plain_of};
@@ -182,7 +183,24 @@ fn kept_closed<D: Disk>(parts: &Parts<D>, side: ReceiverSide) -> KeptReceiver
     KeptReceiver::of_closed(parts.alloc, side)
 }
 
-/// Sets aside what the log takes when a session of a receiver is closed, where its session is open from now on and none was.
+/// Gives a channel its place among the receivers that may be bound.
+///
+/// # Errors
+///
+/// No memory; nothing has changed.
+fn seat_channel<D: Disk>(parts: &mut Parts<D>, channel: &ChName) -> Result<(), NoMemory>
+    ensures more { HasMoreRoom parts.old parts.new }
+    ensures seat { OnOk result (has_seat channel.now parts.new.ends.bound.seats ≡ true) }
+{
+    match parts.ends.bound.seat(channel) {
+        Ok(()) => {}
+        Err(NoMemory) => return Err(NoMemory),
+    }
+    Ok(())
+}
+
+/// Sets aside what a receiver needs that hardens something: a place among those that may be bound, and what the log takes when its
+/// session is closed, where that is open from now on and none was.
 ///
 /// # Errors
 ///
@@ -194,6 +212,26 @@ pub fn aside_for<D: Disk>(
 ) -> Result<(), NoMemory>
     ensures more { HasMoreRoom parts.old parts.new }
     ensures ready { OnOk result (EndsReady parts.old.ends parts.old.log.spare → (side : Receiver) → side.channel ≡ channel.now → side.hardened.closed ≡ closed → EndsReady (with_receivers (set_receiver side parts.new.ends.receivers) parts.new.ends) parts.new.log.spare) }
+{
+    match seat_channel(parts, channel) {
+        Ok(()) => {}
+        Err(NoMemory) => return Err(NoMemory),
+    }
+    match aside_session(parts, channel, closed) {
+        Ok(()) => {}
+        Err(NoMemory) => return Err(NoMemory),
+    }
+    Ok(())
+}
+
+/// Sets aside what the log takes when a session of a receiver is closed, where its session is open from now on and none was.
+fn aside_session<D: Disk>(
+    parts: &mut Parts<D>,
+    channel: &ChName,
+    closed: bool,
+) -> Result<(), NoMemory>
+    ensures more { HasMoreRoom parts.old parts.new }
+    ensures ready { OnOk result (EndsReady parts.old.ends parts.old.log.spare → has_seat channel.now parts.old.ends.bound.seats ≡ true → (side : Receiver) → side.channel ≡ channel.now → side.hardened.closed ≡ closed → EndsReady (with_receivers (set_receiver side parts.new.ends.receivers) parts.new.ends) parts.new.log.spare) }
 {
     if closed {
         return Ok(());

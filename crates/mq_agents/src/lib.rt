@@ -22,5 +22,5 @@ pub use hardening::{
 pub use preparing::prepare;
 pub use reading::{Hardened, batch_row, defs, is_up, kept, moment, next_row, stock};
 pub use releasing::release_batch;
-pub use seizing::{leave, seize, set_bound};
+pub use seizing::{bind, leave, seize, set_bound, unbind};
 pub use settling::harden_resolved;

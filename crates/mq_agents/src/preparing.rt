@@ -163,7 +163,7 @@ fn aside_rows<D: Disk>(parts: &mut Parts<D>, count: usize) -> Result<(), NoMemor
     ensures more { HasMoreRoom parts.old parts.new }
     ensures spare { parts.new.log.spare ≡ parts.old.log.spare }
     ensures ends { parts.new.ends ≡ record parts.old.ends { rows = parts.new.ends.rows } }
-    ensures room { OnOk result (parts.new.ends.rows.room ≡ parts.old.ends.rows.room + count) }
+    ensures room { OnOk result (parts.old.ends.rows.room + length parts.old.ends.rows.rows + count ≤ parts.new.ends.rows.room + length parts.new.ends.rows.rows) }
 {
     match parts.ends.rows.set_aside(count) {
         Ok(()) => {}

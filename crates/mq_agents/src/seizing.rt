@@ -1,10 +1,11 @@
 //! A sender opens its transmission queue and leaves it; a receiver is bound or not.
-ghost use Rattle.std.specs.Prelude.{◌≡◌, Ok, OnOk, OnErr, true, false, not, ◌||◌};
-ghost use Rattle.mq_calls.specs.Words.{MeetsInRoom, MeetsOrWants, channel_of, has_held_by_other, is_open_for_input};
+ghost use Rattle.std.specs.Prelude.{◌≡◌, None, Ok, OnOk, OnErr, is_some, true, false, not, ◌||◌};
+ghost use Rattle.mq_calls.specs.Words.{MeetsInRoom, MeetsOrWants, channel_of, has_held_by_other, is_open_for_input, receiver_data};
 ghost use Rattle.mq_spec_manager.specs.Agents.{IsUp, IsSenderHere, channel_queue, leave, seize, set_bound};
 ghost use Rattle.mq_core.specs.Views.{plain_of};
 ghost use Rattle.mq_agents.specs.Ends.{Seizes, by_memory, by_seize};
-ghost use Rattle.mq_agents.specs.Removing.{receiver_bound};
+ghost use Rattle.mq_agents.specs.Removing.{IsBoundNow, receiver_unbound};
+ghost use Rattle.mq_sides.specs.Bonds.{has_seat};
 ghost use Rattle.mq_core.specs.Values.{manager_of, WritesLog};
 
 use crate::walking::has_held_by_other;
@@ -98,42 +99,57 @@ pub fn leave<D: Disk>(core: &mut Core<D>, channel: &ChName)
     drop_side(core.parts.alloc, &mut core.parts.ends.seizures, channel);
 }
 
-// A receiver is bound.
+// A receiver is bound. Where it has its place, it takes no memory.
 fn put_bond<D: Disk>(parts: &mut Parts<D>, channel: &ChName) -> Result<(), NoMemory>
-    ensures ok { OnOk result (parts.new ≡ receiver_bound channel.now parts.old) }
+    ensures ok { OnOk result (IsBoundNow channel.now parts.old parts.new) }
     ensures err { OnErr result (parts.new ≡ parts.old) }
+    ensures lacks { OnErr result (has_seat channel.now parts.old.ends.bound.seats ≡ false) }
 {
-    match set_side(&mut parts.ends.bound, *channel) {
-        Ok(()) => Ok(()),
-        Err(NoMemory) => Err(NoMemory),
+    match parts.ends.bound.bind(channel) {
+        Ok(()) => {}
+        Err(NoMemory) => return Err(NoMemory),
     }
+    Ok(())
 }
 
-// A receiver is bound from now on.
-fn bind<D: Disk>(core: &mut Core<D>, channel: &ChName) -> Result<(), NoMemory>
+// A receiver isn't bound, and keeps its place. It takes no memory.
+fn drop_bond<D: Disk>(parts: &mut Parts<D>, channel: &ChName)
+    ensures { parts.new ≡ receiver_unbound channel.now parts.old }
+{
+    parts.ends.bound.unbind(channel);
+}
+
+/// A receiver is bound from now on. Of one that has hardened something it takes no memory.
+///
+/// # Errors
+///
+/// No memory; nothing has changed.
+pub fn bind<D: Disk>(core: &mut Core<D>, channel: &ChName) -> Result<(), NoMemory>
     requires up { IsUp core.old.plain }
     ensures meets { MeetsOrWants (manager_of core.old) (set_bound channel.now true core.old.plain) (by_memory result) (manager_of core.new) }
     ensures told { WritesLog core.old (set_bound channel.now true core.old.plain) (by_memory result) core.new }
+    ensures wants { OnErr result (receiver_data channel.now core.old.plain ≡ None) }
 {
     core.begin_call();
     match put_bond(&mut core.parts, channel) {
-        Ok(()) => Ok(()),
-        Err(NoMemory) => Err(NoMemory),
+        Ok(()) => {}
+        Err(NoMemory) => return Err(NoMemory),
     }
+    Ok(())
 }
 
-// A receiver isn't bound from now on. It takes no memory.
-fn unbind<D: Disk>(core: &mut Core<D>, channel: &ChName)
+/// A receiver isn't bound from now on. It takes no memory.
+pub fn unbind<D: Disk>(core: &mut Core<D>, channel: &ChName)
     requires up { IsUp core.old.plain }
     ensures meets { MeetsOrWants (manager_of core.old) (set_bound channel.now false core.old.plain) (Ok tt) (manager_of core.new) }
     ensures room { MeetsInRoom (manager_of core.old) (set_bound channel.now false core.old.plain) (Ok tt) (manager_of core.new) }
     ensures told { WritesLog core.old (set_bound channel.now false core.old.plain) (Ok tt) core.new }
 {
     core.begin_call();
-    drop_side(core.parts.alloc, &mut core.parts.ends.bound, channel);
+    drop_bond(&mut core.parts, channel);
 }
 
-/// Whether a receiver is bound from now on. Only a first bond of a channel takes memory; that it isn't bound takes none.
+/// Whether a receiver is bound from now on. Where it has hardened something, or isn't bound, it takes no memory.
 ///
 /// # Errors
 ///
@@ -143,6 +159,7 @@ pub fn set_bound<D: Disk>(core: &mut Core<D>, channel: &ChName, bound: bool) -> 
     ensures meets { MeetsOrWants (manager_of core.old) (set_bound channel.now bound core.old.plain) (by_memory result) (manager_of core.new) }
     ensures told { WritesLog core.old (set_bound channel.now bound core.old.plain) (by_memory result) core.new }
     ensures room { bound ≡ false → MeetsInRoom (manager_of core.old) (set_bound channel.now bound core.old.plain) (by_memory result) (manager_of core.new) }
+    ensures seated { is_some (receiver_data channel.now core.old.plain) ≡ true → MeetsInRoom (manager_of core.old) (set_bound channel.now bound core.old.plain) (by_memory result) (manager_of core.new) }
 {
     if bound {
         return bind(core, channel);

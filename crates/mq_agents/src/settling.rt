@@ -1,11 +1,15 @@
 //! A unit in doubt is settled: its rows go, or are free again.
-ghost use Rattle.std.specs.Prelude.{◌≡◌, ◌-◌, ◌<◌, ◌≤◌, ◌^◌, Some, None, true, map, length, take, flat_map, sum_by, option_copied, IfOk, IfSome};
+ghost use Rattle.std.specs.Prelude.{◌≡◌, ◌+◌, ◌++◌, ◌<◌, ◌≤◌, ◌^◌, [], Some, None, true, false, find, is_some, map, length, take, flat_map, option_copied, OnErr, OnOk};
+ghost use Rattle.std.specs.Str.{bytes_eq};
 ghost use Rattle.mq_message.specs.declared.place.Holder.TheVariants as holders;
-ghost use Rattle.mq_calls.specs.Words.{MeetsOrWants, set_sender, sender_data, data_settled, settle_by, stored};
+ghost use Rattle.mq_calls.specs.Words.{MeetsInRoom, MeetsOrWants, set_sender, sender_data, sender_or, data_settled, settle_by, stored};
 ghost use Rattle.mq_calls.specs.Reads.{in_doubt_of};
-ghost use Rattle.mq_spec_manager.specs.Agents.{IsUp, harden, held_on, held_rows, settle_did};
+ghost use Rattle.mq_spec_manager.specs.Agents.{CanHarden, IsUp, harden, held_on, held_rows, settle_did};
 ghost use Rattle.mq_law_manager.specs.Facts.{Sound, AreNamed};
 ghost use Rattle.mq_place.specs.States.{queues_of};
+ghost use Rattle.mq_place.specs.Rooms.{RoomStays};
+ghost use Rattle.mq_sides.specs.Kept.{told_need};
+ghost use Rattle.mq_sides.specs.Places.{AreByName, standing};
 ghost use Rattle.mq_calls.specs.declared.agents.Note.TheVariants as notes;
 ghost use Rattle.mq_calls.specs.declared.records.LogRecord.TheVariants as records;
 ghost use Rattle.mq_record.specs.Records.{record_bytes};
@@ -13,32 +17,30 @@ ghost use Rattle.mq_unit.specs.Told.{told, told_all};
 ghost use Rattle.mq_core.specs.declared.parts.StoppedWrite.TheVariants as writes;
 ghost use Rattle.mq_calls.specs.Recovery.{listed};
 ghost use Rattle.mq_calls.specs.declared.state.SenderSide.{SenderSide as Sender};
-ghost use Rattle.mq_core.specs.Ties.{EndsReady, rows_need};
+ghost use Rattle.mq_core.specs.Ties.{EndsReady};
 ghost use Rattle.mq_core.specs.Views.{plain_of};
 ghost use Rattle.mq_agents.specs.Ends.{by_agent};
-ghost use Rattle.mq_agents.specs.Written.{IsAside, IsWhole, drawn_if, drawn_need, with_senders};
-ghost use Rattle.mq_agents.specs.Settling.{AreLone, WritesRows, each_settled, row_settled, rows_settled};
+ghost use Rattle.mq_agents.specs.Written.{IsWhole, Lacks, WantsNone, WritesOver, drawn_if, drawn_need, with_senders};
+ghost use Rattle.mq_agents.specs.Settling.{AreLone, IsShortOf, doubt_before, each_settled, freed_room, none_named, row_settled, rows_settled, with_named};
 ghost use Rattle.mq_core.specs.Values.{manager_of, WritesLog};
 
-use crate::hardening::{Unwritten, agent_of, draw, go_down, sender_now, stop_of};
+use crate::hardening::{Unwritten, agent_of, draw, go_down, stop_of};
 use crate::preparing::SETTLING;
 use crate::walking::first_held;
-use mq_base::{ChName, Items, NoMemory, QName};
+use mq_base::{ChName, NoMemory, QName};
 use mq_calls::{AgentStop, Did, Note, Remove, SenderSide, Why};
 use mq_core::{Core, Parts, StoppedWrite};
 use mq_disk::Disk;
 use mq_message::Holder;
+use mq_place::RowRoom;
 use mq_record::resolved_bytes;
-use mq_sides::{KeptSender, RowRoom, sender_of, swap_side, undo_side};
+use mq_sides::{KeptSender, sender_of, swap_side, undo_side};
 use mq_sync::{InDoubt, SenderData, Unit};
 use mq_unit::Effects;
 
-/// As many rows as no manager holds.
-const MOST_ROWS: usize = 1_000_000_000_000;
-
 /// What a sender has hardened once its unit in doubt is settled: a commit takes its last number over.
-fn settled_data(old: SenderData, commit: bool) -> SenderData
-    ensures { result ≡ data_settled (Some (settle_by commit)) old }
+fn settled_data(old: &SenderData, commit: bool) -> SenderData
+    ensures { result ≡ data_settled (Some (settle_by commit)) old.now }
 {
     let last = match &old.in_doubt {
         None => old.last,
@@ -53,32 +55,86 @@ fn settled_data(old: SenderData, commit: bool) -> SenderData
     }
 }
 
-/// The rows that a holder has, queue by queue. It walks over the rows of all queues.
-fn all_held<D: Disk>(parts: &Parts<D>, by: &Holder) -> Result<Items<Remove>, NoMemory>
-    ensures { IfOk result (λ rows. rows ≡ held_rows by.now (plain_of parts.now)) }
+/// So the sender of a channel; a new one where there is none.
+fn settled_or_blank(found: Option<&SenderData>, commit: bool) -> SenderData
+    ensures { result ≡ data_settled (Some (settle_by commit)) (sender_or (option_copied found.entry)) }
 {
-    let mut rows = Items::new(parts.alloc);
-    match parts.queues.held_rows(by, &mut rows) {
-        Ok(()) => Ok(rows),
+    match found {
+        None => SenderData {
+            partner: QName::blank(),
+            session: 0,
+            last: 0,
+            force: false,
+            in_doubt: None,
+        },
+        Some(old) => settled_data(old, commit),
+    }
+}
+
+/// What a channel's sender has hardened once its unit in doubt is settled. It takes no memory.
+fn settled_side<D: Disk>(parts: &Parts<D>, channel: &ChName, commit: bool) -> SenderSide
+    ensures { result ≡ record { channel = channel.now; hardened = data_settled (Some (settle_by commit)) (sender_or (sender_data channel.now (plain_of parts.now))) } }
+{
+    SenderSide {
+        channel: *channel,
+        hardened: settled_or_blank(sender_of(&parts.ends.senders, channel), commit),
+    }
+}
+
+/// The rows that are named, with their room; none is there any more. It takes no memory.
+fn take_rows<D: Disk>(parts: &mut Parts<D>) -> RowRoom
+    ensures rows { result ≡ parts.old.ends.rows }
+    ensures same { parts.new ≡ with_named none_named parts.old }
+{
+    let none = RowRoom::new(parts.alloc);
+    std::mem::replace(&mut parts.ends.rows, none)
+}
+
+/// Other rows are named. It takes no memory.
+fn put_rows<D: Disk>(parts: &mut Parts<D>, rows: RowRoom)
+    ensures { parts.new ≡ with_named rows parts.old }
+{
+    parts.ends.rows = rows;
+}
+
+/// No row is named any more, and so much of the room is kept no longer. It takes no memory.
+fn free_rows<D: Disk>(parts: &mut Parts<D>, less: usize)
+    requires { less ≤ parts.old.ends.rows.room + length parts.old.ends.rows.rows }
+    ensures { parts.new ≡ with_named (freed_room less parts.old.ends.rows) parts.old }
+{
+    parts.ends.rows.clear();
+    parts.ends.rows.give_back(less);
+}
+
+/// Names the rows that a holder has, queue by queue. It walks over the rows of all queues.
+fn all_held<D: Disk>(parts: &Parts<D>, by: &Holder, rows: &mut RowRoom) -> Result<(), NoMemory>
+    ensures rows { OnOk result (rows.new.rows ≡ rows.old.rows ++ held_rows by.now (plain_of parts.now)) }
+    ensures room { RoomStays rows.old rows.new }
+    ensures memory { OnErr result (rows.old.room < length (held_rows by.now (plain_of parts.now))) }
+{
+    match parts.queues.held_rows(by, rows) {
+        Ok(()) => Ok(()),
         Err(NoMemory) => Err(NoMemory),
     }
 }
 
-/// The first rows that a holder has on a queue, at most so many. It walks to the last of them.
+/// Names the first rows that a holder has on a queue, at most so many. It walks to the last of them.
 #[tactic(auto, using(mq_core::proofs::PlaceLaws::queue_in_state, mq_core::proofs::ReadLaws::queue_none))]
 fn rows_on<D: Disk>(
     parts: &Parts<D>,
     queue: &QName,
     by: &Holder,
     most: usize,
-) -> Result<Items<Remove>, NoMemory>
-    ensures { IfOk result (λ rows. rows ≡ take most (held_on by.now (stored queue.now (plain_of parts.now)))) }
+    rows: &mut RowRoom,
+) -> Result<(), NoMemory>
+    ensures rows { OnOk result (rows.new.rows ≡ rows.old.rows ++ take most (held_on by.now (stored queue.now (plain_of parts.now)))) }
+    ensures room { RoomStays rows.old rows.new }
+    ensures memory { OnErr result (rows.old.room < length (take most (held_on by.now (stored queue.now (plain_of parts.now))))) }
 {
-    let mut rows = Items::new(parts.alloc);
     match parts.queues.local(queue) {
-        None => Ok(rows),
-        Some(local) => match first_held(local, by, most, &mut rows) {
-            Ok(()) => Ok(rows),
+        None => Ok(()),
+        Some(local) => match first_held(local, by, most, rows) {
+            Ok(()) => Ok(()),
             Err(NoMemory) => Err(NoMemory),
         },
     }
@@ -97,30 +153,141 @@ fn doubt_now<'a, D: Disk>(parts: &'a Parts<D>, channel: &ChName) -> Option<&'a I
     }
 }
 
-/// The rows that the batch of a channel holds, queue by queue. Where as many of them stand on the queue of the unit in doubt as that
-/// lists, there are no others, and the walk ends with the last of them.
-fn rows_held<D: Disk>(parts: &Parts<D>, channel: &ChName) -> Result<Items<Remove>, NoMemory>
+/// Whether a channel's sender has a unit in doubt.
+fn has_doubt<D: Disk>(parts: &Parts<D>, channel: &ChName) -> bool
+    ensures { result ≡ is_some (in_doubt_of (sender_data channel.now (plain_of parts.now))) }
+{
+    match doubt_now(parts, channel) {
+        None => false,
+        Some(_) => true,
+    }
+}
+
+/// Names the rows that the batch of a channel holds, queue by queue, where none was named. Where as many of them stand on the queue of
+/// the unit in doubt as that lists, there are no others, and the walk ends with the last of them. Where there is room for the rows that
+/// the unit lists, it takes no memory.
+fn name_rows<D: Disk>(
+    parts: &Parts<D>,
+    channel: &ChName,
+    rows: &mut RowRoom,
+) -> Result<(), NoMemory>
     requires sound { Sound (plain_of parts.now) }
     requires named { AreNamed (plain_of parts.now).queues }
-    ensures { IfOk result (λ rows. rows ≡ held_rows (holders.Batch channel.now) (plain_of parts.now)) }
+    requires none { rows.old.rows ≡ [] }
+    ensures rows { OnOk result (rows.new.rows ≡ held_rows (holders.Batch channel.now) (plain_of parts.now)) }
+    ensures room { RoomStays rows.old rows.new }
+    ensures memory { OnErr result (IsShortOf (rows.old.room + length rows.old.rows) (in_doubt_of (sender_data channel.now (plain_of parts.now)))) }
 {
     let by = Holder::Batch(*channel);
     let Some(doubt) = doubt_now(parts, channel) else {
-        return all_held(parts, &by);
+        return match all_held(parts, &by, rows) {
+            Ok(()) => Ok(()),
+            Err(NoMemory) => Err(NoMemory),
+        };
     };
     let most = doubt.idents.len();
-    let rows = match rows_on(parts, &doubt.queue, &by, most) {
-        Ok(rows) => rows,
+    match rows_on(parts, &doubt.queue, &by, most, rows) {
+        Ok(()) => {}
         Err(NoMemory) => return Err(NoMemory),
-    };
-    if rows.len() == most {
-        return Ok(rows);
     }
-    all_held(parts, &by)
+    if rows.as_slice().len() == most {
+        return Ok(());
+    }
+    rows.clear();
+    match all_held(parts, &by, rows) {
+        Ok(()) => Ok(()),
+        Err(NoMemory) => Err(NoMemory),
+    }
 }
 
-/// Forces the record of a unit in doubt that is settled, with what it says of the sender; the rows are handed back. Where its write was
-/// stopped nothing of that stands, and the manager is down.
+/// So in the room that is kept for the notes of stopped writes; rows that were named before are not any more.
+fn list_rows<D: Disk>(parts: &mut Parts<D>, channel: &ChName) -> Result<(), NoMemory>
+    requires sound { Sound (plain_of parts.old) }
+    requires named { AreNamed (plain_of parts.old).queues }
+    ensures same { parts.new ≡ with_named parts.new.ends.rows parts.old }
+    ensures room { RoomStays parts.old.ends.rows parts.new.ends.rows }
+    ensures rows { OnOk result (parts.new.ends.rows.rows ≡ held_rows (holders.Batch channel.now) (plain_of parts.old)) }
+    ensures memory { OnErr result (IsShortOf (parts.old.ends.rows.room + length parts.old.ends.rows.rows) (in_doubt_of (sender_data channel.now (plain_of parts.old)))) }
+{
+    let mut rows = take_rows(parts);
+    rows.clear();
+    match name_rows(parts, channel, &mut rows) {
+        Ok(()) => {
+            put_rows(parts, rows);
+            Ok(())
+        }
+        Err(NoMemory) => {
+            put_rows(parts, rows);
+            Err(NoMemory)
+        }
+    }
+}
+
+/// How many rows are named.
+fn rows_named<D: Disk>(parts: &Parts<D>) -> usize
+    ensures { result ≡ length parts.now.ends.rows.rows }
+{
+    parts.ends.rows.as_slice().len()
+}
+
+/// Makes room for what is told of so many rows and of their settlement, but where a unit in doubt has it.
+fn tell_room(effects: &mut Effects, count: usize, had: bool) -> Result<(), NoMemory>
+    ensures dids { effects.new.dids ≡ effects.old.dids }
+    ensures room { OnOk result (had ≡ false → count + 1 ≤ effects.new.room) }
+    ensures wants { OnErr result (had ≡ false) }
+{
+    if had {
+        return Ok(());
+    }
+    let Some(most) = count.checked_add(1) else {
+        return Err(NoMemory);
+    };
+    match effects.reserve(most) {
+        Ok(()) => Ok(()),
+        Err(NoMemory) => Err(NoMemory),
+    }
+}
+
+/// How many rows the unit in doubt lists of what stood for a channel.
+fn listed_before(before: &Option<KeptSender>) -> usize
+    ensures { result ≡ length (listed (doubt_before before.now)) }
+{
+    match before {
+        None => 0,
+        Some(side) => rows_listed(side),
+    }
+}
+
+/// How many rows the unit in doubt of a sender lists.
+fn rows_listed(side: &KeptSender) -> usize
+    ensures { result ≡ length (listed side.now.hardened.in_doubt) }
+{
+    match &side.side().hardened.in_doubt {
+        None => 0,
+        Some(doubt) => doubt.idents.len(),
+    }
+}
+
+/// A unit in doubt that stood for a channel is told of in the room that was kept with it. It takes no memory.
+fn take_room(effects: &mut Effects, before: Option<KeptSender>)
+    requires { effects.old.dids ≡ [] }
+    ensures dids { effects.new.dids ≡ [] }
+    ensures room { told_need (doubt_before before) ≤ effects.new.room }
+    ensures same { doubt_before before ≡ None → effects.new ≡ effects.old }
+{
+    let Some(kept) = before else {
+        return;
+    };
+    let (side, room) = kept.into_parts();
+    if side.hardened.in_doubt.is_none() {
+        return;
+    }
+    *effects = room;
+}
+
+/// Forces the record of a unit in doubt that is settled, with what it says of the sender; what stood for its channel is handed back. Where
+/// its write was stopped nothing of that stands, the rows that were named are noted, and the manager is down. It takes no memory where
+/// the log has room, and something stands for the channel.
 fn write_settled<D: Disk>(
     parts: &mut Parts<D>,
     channel: &ChName,
@@ -129,12 +296,12 @@ fn write_settled<D: Disk>(
     operator: bool,
     bytes: &[u8],
     side: KeptSender,
-    rows: Items<Remove>,
-) -> Result<Items<Remove>, Unwritten>
+) -> Result<Option<KeptSender>, Unwritten>
     requires live { parts.old.log.live ≡ true }
     requires small { length bytes.now < 2 ^ 32 }
     requires ends { EndsReady (with_senders (set_sender side parts.old.ends.senders) parts.old.ends) parts.old.log.spare }
-    ensures { WritesRows rows bytes.now (with_senders (set_sender side parts.old.ends.senders) parts.old.ends) (writes.Settled channel.now unit.now commit operator rows) parts.old result parts.new }
+    ensures written { WritesOver (standing (λ (s : Sender). s.channel) side.channel parts.old.ends.senders) bytes.now (with_senders (set_sender side parts.old.ends.senders) parts.old.ends) (writes.Settled channel.now unit.now commit operator parts.old.ends.rows.rows) parts.old result parts.new }
+    ensures lacks { Lacks (AreByName (λ (s : Sender). s.channel) parts.old.ends.senders → find (λ (s : Sender). bytes_eq side.channel s.channel) parts.old.ends.senders ≡ None) (5 + length bytes.now) parts.old result }
 {
     match parts.log.room(5 + bytes.len() as u64) {
         Ok(()) => {}
@@ -148,6 +315,7 @@ fn write_settled<D: Disk>(
         Ok(()) => {}
         Err(stop) => {
             undo_side(&mut parts.ends.senders, undo);
+            let rows = take_rows(parts);
             go_down(
                 parts,
                 StoppedWrite::Settled {
@@ -155,13 +323,13 @@ fn write_settled<D: Disk>(
                     unit: *unit,
                     commit,
                     operator,
-                    rows,
+                    rows: rows.into_items(),
                 },
             );
             return Err(Unwritten::Stopped(stop));
         }
     }
-    Ok(rows)
+    Ok(undo.before)
 }
 
 /// A row goes, or is free again at its place, with no backout counted. It takes no memory.
@@ -184,13 +352,15 @@ fn settle_each<D: Disk>(parts: &mut Parts<D>, rows: &[Remove], commit: bool)
     }
 }
 
-/// The rows that a holder has, all of them, go, or are free again at their places. It takes no memory.
-fn settle_rows<D: Disk>(parts: &mut Parts<D>, rows: &Items<Remove>, by: &Holder, commit: bool)
-    requires listed { rows.now ≡ flat_map (held_on by.now) (queues_of parts.old.queues.states) }
+/// The rows that are named, which are all that a holder has, go, or are free again at their places. It takes no memory.
+fn settle_rows<D: Disk>(parts: &mut Parts<D>, by: &Holder, commit: bool)
+    requires listed { parts.old.ends.rows.rows ≡ flat_map (held_on by.now) (queues_of parts.old.queues.states) }
     requires lone { AreLone (queues_of parts.old.queues.states) }
     ensures { parts.new ≡ rows_settled commit by.now parts.old }
 {
+    let rows = take_rows(parts);
     settle_each(parts, rows.as_slice(), commit);
+    put_rows(parts, rows);
 }
 
 fn tell_one_settled(effects: &mut Effects, row: &Remove, commit: bool)
@@ -222,44 +392,12 @@ fn tell_settled(effects: &mut Effects, rows: &[Remove], commit: bool)
     }
 }
 
-/// How many rows the units in doubt of all senders list; none where no number tells it.
-fn rows_total(sides: &[KeptSender]) -> Option<usize>
-    ensures { IfSome result (λ n. n ≡ sum_by (λ (s : Sender). length (listed s.hardened.in_doubt)) sides.now) }
+/// So of the rows that are named.
+fn tell_rows(effects: &mut Effects, rows: &RowRoom, commit: bool)
+    requires { length rows.now.rows ≤ effects.old.room }
+    ensures { effects.new ≡ told_all (map (settle_did commit) rows.now.rows) effects.old }
 {
-    let mut sum: usize = 0;
-    for side in sides {
-        let Some(more) = sum.checked_add(rows_listed(side)) else {
-            return None;
-        };
-        sum = more;
-    }
-    Some(sum)
-}
-
-/// How many rows the unit in doubt of a sender lists.
-fn rows_listed(side: &KeptSender) -> usize
-    ensures { result ≡ length (listed side.now.hardened.in_doubt) }
-{
-    match &side.side().hardened.in_doubt {
-        None => 0,
-        Some(doubt) => doubt.idents.len(),
-    }
-}
-
-/// Room for the rows of notes that is needed no longer is let go, where there is memory.
-fn shrink_rows<D: Disk>(parts: &mut Parts<D>)
-    requires rows { rows_need parts.old.ends ≤ parts.old.ends.rows.room }
-    ensures same { parts.new ≡ record parts.old { ends = record parts.old.ends { rows = parts.new.ends.rows } } }
-    ensures rows { rows_need parts.old.ends ≤ parts.new.ends.rows.room }
-{
-    let Some(total) = rows_total(parts.ends.senders.as_slice()) else {
-        return;
-    };
-    let rows = match RowRoom::with_room(parts.alloc, total) {
-        Ok(rows) => rows,
-        Err(NoMemory) => return,
-    };
-    parts.ends.rows = rows;
+    tell_settled(effects, rows.as_slice(), commit);
 }
 
 /// What was set aside for a unit in doubt is room of the log again. It takes no memory.
@@ -272,18 +410,6 @@ fn draw_if<D: Disk>(parts: &mut Parts<D>, had: bool)
     }
 }
 
-/// What was set aside for a unit that was in doubt is kept no longer.
-fn give_back<D: Disk>(parts: &mut Parts<D>, had: bool)
-    requires bytes { drawn_need had ≤ parts.old.log.spare }
-    requires ready { EndsReady parts.old.ends (parts.old.log.spare - drawn_need had) }
-    ensures aside { IsAside parts.old parts.new }
-    ensures room { parts.old.log.room ≤ parts.new.log.room }
-    ensures ready { EndsReady parts.new.ends parts.new.log.spare }
-{
-    draw_if(parts, had);
-    shrink_rows(parts);
-}
-
 /// What a sender has hardened that has nothing in doubt. It takes no memory.
 fn kept_settled<D: Disk>(parts: &Parts<D>, side: SenderSide) -> KeptSender
     requires { side.hardened.in_doubt ≡ None }
@@ -292,7 +418,8 @@ fn kept_settled<D: Disk>(parts: &Parts<D>, side: SenderSide) -> KeptSender
     KeptSender::of_settled(parts.alloc, side)
 }
 
-/// A sender hardens a record of these bytes, which says that its unit in doubt is settled.
+/// A sender hardens a record of these bytes, which says that its unit in doubt is settled. Of one that is in doubt it takes no memory: the
+/// room was made when it was prepared.
 fn settle_unit<D: Disk>(
     core: &mut Core<D>,
     channel: &ChName,
@@ -306,35 +433,26 @@ fn settle_unit<D: Disk>(
     requires named { AreNamed core.old.plain.queues }
     requires bytes { bytes.now ≡ record_bytes (records.Resolved channel.now unit.now commit operator) }
     requires size { IsWhole bytes.now (records.Resolved channel.now unit.now commit operator) }
-    requires small { length bytes.now < 2 ^ 32 }
+    requires small { length bytes.now ≤ 39 }
+    ensures wants { is_some (in_doubt_of (sender_data channel.now core.old.plain)) ≡ true → WantsNone result }
     ensures meets { MeetsOrWants (manager_of core.old) (harden channel.now (notes.Resolved unit.now commit operator) core.old.plain) (by_agent result) (manager_of core.new) }
     ensures told { WritesLog core.old (harden channel.now (notes.Resolved unit.now commit operator) core.old.plain) (by_agent result) core.new }
 {
     core.begin_call();
-    let rows = match rows_held(&core.parts, channel) {
-        Ok(rows) => rows,
-        Err(NoMemory) => return Err(AgentStop::NoMemory),
-    };
-    let count = rows.len();
-    if count >= MOST_ROWS {
-        return Err(AgentStop::NoMemory);
-    }
-    match core.effects.reserve(count + 1) {
+    match list_rows(&mut core.parts, channel) {
         Ok(()) => {}
         Err(NoMemory) => return Err(AgentStop::NoMemory),
     }
-    let old = match sender_now(&core.parts, channel) {
-        Ok(old) => old,
+    let count = rows_named(&core.parts);
+    let had = has_doubt(&core.parts, channel);
+    match tell_room(&mut core.effects, count, had) {
+        Ok(()) => {}
         Err(NoMemory) => return Err(AgentStop::NoMemory),
-    };
-    let had = old.in_doubt.is_some();
-    let hardened = settled_data(old, commit);
-    let side = SenderSide {
-        channel: *channel,
-        hardened,
-    };
+    }
+    draw_if(&mut core.parts, had);
+    let side = settled_side(&core.parts, channel, commit);
     let kept = kept_settled(&core.parts, side);
-    let gone = match write_settled(
+    let before = match write_settled(
         &mut core.parts,
         channel,
         unit,
@@ -342,9 +460,8 @@ fn settle_unit<D: Disk>(
         operator,
         bytes,
         kept,
-        rows,
     ) {
-        Ok(gone) => gone,
+        Ok(before) => before,
         Err(unwritten) => {
             let stopped = stop_of(unwritten);
             let agent = agent_of(unwritten);
@@ -352,10 +469,12 @@ fn settle_unit<D: Disk>(
             return Err(agent);
         }
     };
+    let less = listed_before(&before);
+    take_room(&mut core.effects, before);
     let by = Holder::Batch(*channel);
-    settle_rows(&mut core.parts, &gone, &by, commit);
-    give_back(&mut core.parts, had);
-    tell_settled(&mut core.effects, gone.as_slice(), commit);
+    settle_rows(&mut core.parts, &by, commit);
+    tell_rows(&mut core.effects, &core.parts.ends.rows, commit);
+    free_rows(&mut core.parts, less);
     core.effects.tell(Did::Hardened {
         channel: *channel,
         note: Note::Resolved {
@@ -368,11 +487,11 @@ fn settle_unit<D: Disk>(
 }
 
 /// A sender hardens that its unit in doubt is settled, by its partner's word or by an operator: committed, its rows go; backed out, they
-/// are free again at their places, with no backout counted.
+/// are free again at their places, with no backout counted. Of one that is in doubt it takes no memory.
 ///
 /// # Errors
 ///
-/// The disk or the cut stopped the write, and the manager is down; no memory, and nothing has changed.
+/// The disk or the cut stopped the write, and the manager is down; no memory, where nothing is in doubt, and nothing has changed.
 pub fn harden_resolved<D: Disk>(
     core: &mut Core<D>,
     channel: &ChName,
@@ -385,6 +504,7 @@ pub fn harden_resolved<D: Disk>(
     requires named { AreNamed core.old.plain.queues }
     ensures meets { MeetsOrWants (manager_of core.old) (harden channel.now (notes.Resolved unit.now commit operator) core.old.plain) (by_agent result) (manager_of core.new) }
     ensures told { WritesLog core.old (harden channel.now (notes.Resolved unit.now commit operator) core.old.plain) (by_agent result) core.new }
+    ensures room { CanHarden channel.now (notes.Resolved unit.now commit operator) core.old.plain → MeetsInRoom (manager_of core.old) (harden channel.now (notes.Resolved unit.now commit operator) core.old.plain) (by_agent result) (manager_of core.new) }
 {
     settle_unit(
         core,

@@ -1,16 +1,17 @@
 //! Walks over the rows of one queue.
-ghost use Rattle.std.specs.Prelude.{◌≡◌, ◌++◌, ◌&&◌, find, nat_lt, length, filter, take, option_copied, OnOk};
+ghost use Rattle.std.specs.Prelude.{◌≡◌, ◌<◌, ◌++◌, ◌&&◌, find, nat_lt, length, filter, take, option_copied, OnErr, OnOk};
 ghost use Rattle.std.specs.List.{list_any};
 ghost use Rattle.mq_queue.specs.declared.row.Row.{Row};
 ghost use Rattle.mq_queue.specs.Rows.{is_free};
 ghost use Rattle.mq_calls.specs.Reads.{is_by_other, is_past};
 ghost use Rattle.mq_place.specs.States.{held_on};
+ghost use Rattle.mq_place.specs.Rooms.{RoomStays};
 ghost use Rattle.mq_agents.specs.Ends.{is_free_past};
 
-use mq_base::{ChName, Items, NoMemory};
+use mq_base::{ChName, NoMemory};
 use mq_calls::Remove;
 use mq_message::Holder;
-use mq_place::LocalRows;
+use mq_place::{LocalRows, RowRoom};
 use mq_queue::{Queue, Row};
 
 /// Whether a unit, or the batch of another channel, holds a row.
@@ -71,15 +72,17 @@ pub(crate) fn has_held_by_other<Q: Queue + Drop>(local: &LocalRows<Q>, channel: 
     true
 }
 
-/// Adds the first rows that a holder has, at most so many, in order of place, and walks to the last of them. After a refusal some may be
-/// there.
+/// Names the first rows that a holder has, at most so many, in order of place, and walks to the last of them. After a refusal some may be
+/// named; where there is room for all of them it takes no memory.
 pub(crate) fn first_held<Q: Queue + Drop>(
     local: &LocalRows<Q>,
     by: &Holder,
     most: usize,
-    rows: &mut Items<Remove>,
+    rows: &mut RowRoom,
 ) -> Result<(), NoMemory>
-    ensures { OnOk result (rows.new ≡ rows.old ++ take most (held_on by.now local.now.queue)) }
+    ensures rows { OnOk result (rows.new.rows ≡ rows.old.rows ++ take most (held_on by.now local.now.queue)) }
+    ensures room { RoomStays rows.old rows.new }
+    ensures memory { OnErr result (rows.old.room < length (take most (held_on by.now local.now.queue))) }
 {
     let _len = local.len();
     let mut after = None;
@@ -91,8 +94,9 @@ pub(crate) fn first_held<Q: Queue + Drop>(
             queue: *local.name(),
             ident: row.message.ident,
         };
-        if rows.push(named).is_err() {
-            return Err(NoMemory);
+        match rows.add(named) {
+            Ok(()) => {}
+            Err(NoMemory) => return Err(NoMemory),
         }
         after = Some(row.place);
     }

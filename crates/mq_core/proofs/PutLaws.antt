@@ -25,12 +25,14 @@ use Rattle.mq_calls.specs.declared.commands.Halt.TheVariants as halts
 use Rattle.mq_spec_manager.specs.Words.{next_ident, placed, sent_answer}
 use Rattle.mq_log.specs.State.{LogState}
 use Rattle.mq_place.specs.States.{QueueState, queues_of, state_in, change_state, expecting, unpended}
-use Rattle.mq_sides.specs.Kept.{RowsKept}
+use Rattle.mq_place.specs.Rooms.{RowsKept}
 use Rattle.mq_core.specs.Views.{PartsValue, plain_of, frozen_of, noted}
 use Rattle.mq_core.specs.Writes.{added, now_part}
 use Rattle.mq_core.specs.Calls.{now_step}
 use Rattle.mq_core.specs.Ties.{TiedBut, Tied, EndsReady, IsReady, HasCounts, AreCounted, state_lanes, local_lanes, pending_at, times_in_queues, times_in_units, one_if, mode_is_up}
 use Rattle.mq_core.specs.Placing.{with_states, arrived_at, due_if, put_in_place}
+use Rattle.mq_sides.specs.Bonds.{KeepsSeats}
+use Rattle.mq_sides.proofs.BondLaws.{all_seated}
 use Rattle.mq_core.specs.Forced.{IsForced, IsExpected, HasMoreRoom, counted_put, downed_put}
 use Rattle.mq_core.proofs.PlaceLaws.{name_is, some_same, state_named, state_changed, state_other, seen_kept, pending_changed, ready, placed_view, tied_placed}
 use Rattle.mq_core.proofs.ForceLaws.{forced_view, frozen_view, tied_downed, stops_at}
@@ -236,20 +238,22 @@ with_states_of : List QueueState → PartsValue → LogState → Buffered → Pa
 with_states_of states x log body = record (with_states states x) { log = log; body = body }
 
 -- more room was taken, and none set aside
-with_aside : RowsKept → ℕ → PartsValue → PartsValue
-with_aside rows spare x = record x { ends = record x.ends { rows = rows }; log = record x.log { spare = spare } }
+with_aside : RowsKept → List (List ℕ) → ℕ → PartsValue → PartsValue
+with_aside rows seats spare x = record x { ends = record x.ends { rows = rows; bound = record x.ends.bound { seats = seats } }; log = record x.log { spare = spare } }
 
 pub more_room : (x y : PartsValue) → y ≡ record x { log = record x.log { room = y.log.room }; body = y.body } → x.log.room ≤ y.log.room → x.body.room + length x.body.bytes ≤ y.body.room + length y.body.bytes → HasMoreRoom x y
 unfolding with_aside
 more_room x y e log body =
     let rows : x.ends.rows ≡ y.ends.rows = sym (ap (λ (z : PartsValue). z.ends.rows) e) in
     let spare : x.log.spare ≡ y.log.spare = sym (ap (λ (z : PartsValue). z.log.spare) e) in
-    let some = ap (λ (r : RowsKept). r.room) rows in
+    let seats : x.ends.bound.seats ≡ y.ends.bound.seats = sym (ap (λ (z : PartsValue). z.ends.bound.seats) e) in
+    let some = ap (λ (r : RowsKept). r.room + length r.rows) rows in
     record {
-      same = e ∙ (λ i. with_aside (rows i) (spare i) (record x { log = record x.log { room = y.log.room }; body = y.body }));
+      same = e ∙ (λ i. with_aside (rows i) (seats i) (spare i) (record x { log = record x.log { room = y.log.room }; body = y.body }));
       log = log;
       spare = omega (arith, spare);
       rows = omega (arith, some);
+      seats = subst (KeepsSeats x.ends.bound.seats) seats (λ name e. e);
       body = body;
     }
 
@@ -259,13 +263,22 @@ given_up queue n x y e = more_room x (with_states (change_state queue unpended y
     (ap (unpended_of queue) e.same ∙ ap (λ (states : List QueueState). let l : LogState = record x.log { room = y.log.room } in with_states_of states x l y.body) (unpend_expect queue x.queues.states))
     e.more (omega (arith, e.body))
 
--- more room leaves all tied
+-- more room leaves channel ends ready, and all tied
+pub ready_roomier : (x y : PartsValue) → HasMoreRoom x y → EndsReady x.ends x.log.spare → EndsReady y.ends y.log.spare
+ready_roomier x y h w = subst (λ (p : PartsValue). EndsReady p.ends p.log.spare) (sym h.same) (record {
+  log = let a = w.log in omega (arith, a, h.spare);
+  rows = let a = w.rows in omega (arith, a, h.rows);
+  senders = w.senders;
+  receivers = w.receivers;
+  seats = all_seated x.ends.bound.seats y.ends.bound.seats h.seats x.ends.receivers w.seats;
+})
+
 pub tied_roomier : (x y : PartsValue) → HasMoreRoom x y → Tied x → Tied y
 tied_roomier x y h t = subst Tied (sym h.same) (record {
   up = λ u. let w = t.up u in record {
     live = w.live;
     settled = w.settled;
-    ends = record { log = let a = w.ends.log in omega (arith, a, h.spare); rows = let a = w.ends.rows in omega (arith, a, h.rows); senders = w.ends.senders; receivers = w.ends.receivers };
+    ends = record { log = let a = w.ends.log in omega (arith, a, h.spare); rows = let a = w.ends.rows in omega (arith, a, h.rows); senders = w.ends.senders; receivers = w.ends.receivers; seats = all_seated x.ends.bound.seats y.ends.bound.seats h.seats x.ends.receivers w.ends.seats };
     room = omega (arith, w.room, h.log);
     body = omega (arith, w.body, h.body);
   };

@@ -11,6 +11,9 @@ use Rattle.mq_log.specs.State.{Appended}
 use Rattle.mq_log.specs.Force.{Stops}
 use Rattle.mq_record.specs.Records.{record_bytes}
 use Rattle.mq_place.specs.States.{on_queues, change_state, expecting, unpended}
+use Rattle.mq_place.specs.Rooms.{RoomStays}
+pub use Rattle.mq_sides.specs.Bonds.{KeepsSeats}
+use Rattle.mq_core.specs.declared.parts.ChannelEnds.{ChannelEnds}
 use Rattle.mq_core.specs.declared.parts.StoppedWrite.{StoppedWrite}
 use Rattle.mq_core.specs.declared.parts.StoppedWrite.TheVariants as writes
 use Rattle.mq_core.specs.declared.parts.Mode.TheVariants as modes
@@ -34,12 +37,17 @@ pub record IsForced (r : LogRecord) (x : PartsValue) (result : Result (Unit {0})
 abbrev pub downed : StoppedWrite → PartsValue → PartsValue
 downed write x = record (with_states (on_queues (kept_in Nonpersistent) x.queues.states) x) { mode = modes.Down (Some write) 0 None }
 
+-- ends of channels with the room of others
+abbrev pub roomier_ends : ChannelEnds → ChannelEnds → ChannelEnds
+roomier_ends e f = record e { rows = f.rows; bound = record e.bound { seats = f.bound.seats } }
+
 -- more room was taken, or set aside, and nothing else has changed
 pub record HasMoreRoom (x y : PartsValue) : Type 0 where
-  pub same : y ≡ record x { ends = record x.ends { rows = y.ends.rows }; log = record x.log { room = y.log.room; spare = y.log.spare }; body = y.body }
+  pub same : y ≡ record x { ends = roomier_ends x.ends y.ends; log = record x.log { room = y.log.room; spare = y.log.spare }; body = y.body }
   pub log : x.log.room ≤ y.log.room
   pub spare : x.log.spare ≤ y.log.spare
-  pub rows : x.ends.rows.room ≤ y.ends.rows.room
+  pub rows : RoomStays x.ends.rows y.ends.rows
+  pub seats : KeepsSeats x.ends.bound.seats y.ends.bound.seats
   pub body : x.body.room + length x.body.bytes ≤ y.body.room + length y.body.bytes
 
 -- There is room for one row more, which waits from now on, and for a record of so many bytes.

@@ -17,6 +17,7 @@ use Rattle.mq_calls.specs.declared.state.SenderSide.{SenderSide}
 use Rattle.mq_calls.specs.declared.state.ReceiverSide.{ReceiverSide}
 use Rattle.mq_core.specs.declared.parts.ChannelEnds.{ChannelEnds}
 use Rattle.mq_sides.specs.Places.{AreByName}
+use Rattle.mq_sides.specs.Bonds.{has_seat}
 use Rattle.mq_core.specs.Views.{PartsValue}
 
 abbrev pub mode_is_up : Mode → Bool
@@ -87,13 +88,15 @@ ends_need e = sum_by (λ (s : SenderSide). doubt_bytes s.hardened.in_doubt) e.se
 abbrev pub rows_need : ChannelEnds → ℕ
 rows_need e = sum_by (λ (s : SenderSide). length (listed s.hardened.in_doubt)) e.senders
 
--- Units in doubt are settled, and sessions closed, without memory: so many bytes of the log's are set aside for it, there is room
--- for the rows that are noted, and a side is found at its name's place.
+-- Units in doubt are settled, and sessions closed, without memory: so many bytes of the log's are set aside for it, there is memory
+-- for the rows that are noted (rows that are named here already give theirs), a side is found at its name's place, and each
+-- receiver has a place among those that may be bound.
 pub record EndsReady (e : ChannelEnds) (spare : ℕ) : Type 0 where
   pub log : ends_need e ≤ spare
-  pub rows : rows_need e ≤ e.rows.room
+  pub rows : rows_need e ≤ e.rows.room + length e.rows.rows
   pub senders : AreByName (λ (s : SenderSide). s.channel) e.senders
   pub receivers : AreByName (λ (r : ReceiverSide). r.channel) e.receivers
+  pub seats : AllByRecursion (λ (r : ReceiverSide). has_seat r.channel e.bound.seats ≡ true) e.receivers
 
 -- while it is up: the log takes more, there is memory for what the units need of it, and the channel ends are ready
 pub record TiedUp (x : PartsValue) : Type 0 where

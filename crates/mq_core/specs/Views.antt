@@ -34,7 +34,7 @@ pub record PartsValue : Type 0 where
   pub body : Buffered
 
 abbrev pub channels_of : ChannelEnds → Channels
-channels_of e = record { senders = e.senders; receivers = e.receivers; seizures = e.seizures; batches = e.batches; bound = e.bound }
+channels_of e = record { senders = e.senders; receivers = e.receivers; seizures = e.seizures; batches = e.batches; bound = e.bound.bound }
 
 -- What is frozen while a stopped write waits for its restart, as a plain manager: without rows, numbers, time and log, which may change.
 abbrev pub frozen_of : PartsValue → Plain

@@ -8,10 +8,10 @@ use mq_index::IndexedQueue;
 use mq_log::Log;
 use mq_message::{Dest, Ident, Message};
 use mq_objects::Defs;
-use mq_place::Queues;
+use mq_place::{Queues, RowRoom};
 use mq_record::Buffer;
 use mq_sc_apply::Planned;
-use mq_sides::{KeptBatch, KeptReceiver, KeptSender, RowRoom};
+use mq_sides::{Bonds, KeptBatch, KeptReceiver, KeptSender};
 use mq_sync::Unit;
 use std::alloc::Global;
 use std::marker::Model;
@@ -125,8 +125,8 @@ pub struct ChannelEnds {
     pub seizures: Items<Seizure>,
     /// The rows that a sender channel holds for a batch that is not prepared, with room for its release.
     pub batches: Items<KeptBatch>,
-    /// The receiver channels that run.
-    pub bound: Items<ChName>,
+    /// The receiver channels that run, with a place for each that has hardened something.
+    pub bound: Bonds,
     /// Room for the rows of a unit in doubt, which are noted where the write that settles it is stopped.
     pub rows: RowRoom,
 }

@@ -20,7 +20,7 @@ use Rattle.mq_handles.specs.Desks.{Desk}
 use Rattle.mq_handles.specs.Seats.{cursor_set}
 use Rattle.mq_core.specs.Views.{PartsValue, plain_of}
 use Rattle.mq_core.specs.Ties.{Tied, mode_is_up}
-use Rattle.mq_core.specs.Forced.{HasMoreRoom}
+use Rattle.mq_core.specs.Forced.{HasMoreRoom, KeepsSeats, roomier_ends}
 use Rattle.mq_core.specs.Values.{CoreValue, MeetsTold, bodies_in}
 use Rattle.mq_core.proofs.WriteLaws.{roomier_bodies}
 use Rattle.mq_core.proofs.PutLaws.{tied_roomier, roomier_view}
@@ -132,7 +132,7 @@ halt_tied parts x y u (halts.Stopped by) t h = h.tied
 
 -- nothing has changed
 pub more_same : (x : PartsValue) → HasMoreRoom x x
-more_same x = record { same = refl; log = omega arith; spare = omega arith; rows = omega arith; body = omega arith }
+more_same x = record { same = refl; log = omega arith; spare = omega arith; rows = omega arith; seats = λ name e. e; body = omega arith }
 
 -- a cursor goes to a row
 cursor_part : ℕ → ℕ → Place → Part
@@ -227,15 +227,16 @@ back_run n v parts y z told e h = subst (λ (w : PartsValue). HasRun parts v (se
 
 -- room that is given back where memory is wanting
 with_room : PartsValue → Buffered → PartsValue → PartsValue
-with_room y body x = record x { ends = record x.ends { rows = y.ends.rows }; log = record x.log { room = y.log.room; spare = y.log.spare }; body = body }
+with_room y body x = record x { ends = roomier_ends x.ends y.ends; log = record x.log { room = y.log.room; spare = y.log.spare }; body = body }
 
 pub gave_more : (n : ℕ) (x y z : PartsValue) → HasMoreRoom x y → z ≡ gave_back n y → IsGivenBack n x z
 unfolding with_room
-gave_more n x y z h e = subst (IsGivenBack n x) (sym e) (record { same = ap (with_room y (gave_back n y).body) h.same; log = h.log; spare = h.spare; rows = h.rows; body = omega (arith, h.body) })
+gave_more n x y z h e = subst (IsGivenBack n x) (sym e) (record { same = ap (with_room y (gave_back n y).body) h.same; log = h.log; spare = h.spare; rows = h.rows; seats = h.seats; body = omega (arith, h.body) })
 
 pub back_more : (n : ℕ) (x y z : PartsValue) → IsRoomy n x y → IsGivenBack n y z → HasMoreRoom x z
 unfolding with_room
 back_more n x y z a b =
     let spare = ap (λ (w : PartsValue). w.log.spare) a.same in
-    let rows = ap (λ (w : PartsValue). w.ends.rows.room) a.same in
-    record { same = b.same ∙ ap (with_room z z.body) a.same; log = omega (arith, a.more, b.log); spare = omega (arith, spare, b.spare); rows = omega (arith, rows, b.rows); body = omega (arith, a.body, b.body) }
+    let rows = ap (λ (w : PartsValue). w.ends.rows.room + length w.ends.rows.rows) a.same in
+    let seats = ap (λ (w : PartsValue). w.ends.bound.seats) a.same in
+    record { same = b.same ∙ ap (with_room z z.body) a.same; log = omega (arith, a.more, b.log); spare = omega (arith, spare, b.spare); rows = omega (arith, rows, b.rows); seats = subst (λ (ns : List (List ℕ)). KeepsSeats ns z.ends.bound.seats) seats b.seats; body = omega (arith, a.body, b.body) }

@@ -11,10 +11,11 @@ use Rattle.mq_calls.specs.declared.deltas.Did.TheVariants as did
 use Rattle.mq_unit.specs.Told.{Telling, told, told_all}
 use Rattle.mq_handles.specs.Seats.{pended, given_up}
 use Rattle.mq_place.specs.States.{on_queues}
+use Rattle.mq_place.specs.Rooms.{RoomStays}
 use Rattle.mq_core.specs.declared.parts.StoppedWrite.TheVariants as writes
 use Rattle.mq_core.specs.Views.{PartsValue}
 use Rattle.mq_core.specs.Placing.{with_states}
-use Rattle.mq_core.specs.Forced.{IsForced, downed, returned}
+use Rattle.mq_core.specs.Forced.{IsForced, KeepsSeats, downed, returned, roomier_ends}
 use Rattle.mq_calls.specs.declared.deltas.Why.TheVariants as whys
 use Rattle.mq_scan.specs.declared.scanning.Met.{Met}
 use Rattle.mq_get.specs.declared.leaving.Leaving.{Leaving}
@@ -32,10 +33,11 @@ gave_back need x = record x { body = record { bytes = []; room = x.body.room + l
 
 -- memory was taken for some, and so much room was given back
 pub record IsGivenBack (n : ℕ) (x y : PartsValue) : Type 0 where
-  pub same : y ≡ record x { ends = record x.ends { rows = y.ends.rows }; log = record x.log { room = y.log.room; spare = y.log.spare }; body = y.body }
+  pub same : y ≡ record x { ends = roomier_ends x.ends y.ends; log = record x.log { room = y.log.room; spare = y.log.spare }; body = y.body }
   pub log : x.log.room ≤ y.log.room
   pub spare : x.log.spare ≤ y.log.spare
-  pub rows : x.ends.rows.room ≤ y.ends.rows.room
+  pub rows : RoomStays x.ends.rows y.ends.rows
+  pub seats : KeepsSeats x.ends.bound.seats y.ends.bound.seats
   pub body : x.body.room + length x.body.bytes ≤ y.body.room + length y.body.bytes + n
 
 -- the record of rows that leave was forced, where there is one, or its write was stopped

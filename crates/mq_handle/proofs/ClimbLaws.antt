@@ -27,7 +27,7 @@ use Rattle.mq_spec_node.specs.Words.{Deed, Handler, Node, Own, acted, done, even
 use Rattle.mq_law_image.specs.Bounds.{all_growth}
 use Rattle.mq_law_counts.specs.Counts.{Climbs, PartsClimb, StepClimbs}
 use Rattle.mq_law_counts.proofs.Climbing.{grown, none_climb, one_climbs, stay}
-use Rattle.mq_events.proofs.NumberLaws.{tested_all}
+use Rattle.mq_law_manager.proofs.ShortSteps.{tested_all}
 use Rattle.mq_events.specs.States.{IsKept, NodeState, Spare, node_in}
 use Rattle.mq_events.specs.Counts.{AreCounted, IsNode, KeepsCounts, kept_total}
 use Rattle.mq_events.specs.Events.{Adds}

@@ -32,7 +32,7 @@ use Rattle.mq_events.specs.declared.outcome.Outcome.{Outcome}
 use Rattle.mq_events.specs.Outcomes.{Came}
 use Rattle.mq_events.specs.Disks.{RoseBy}
 use Rattle.mq_events.proofs.CallLaws.{came_so, rose_by, silent, nothing_possible, outcome_by, same_plain}
-use Rattle.mq_events.proofs.NumberLaws.{IsShort, StepIsShort, tested_all}
+use Rattle.mq_law_manager.proofs.ShortSteps.{IsShort, StepIsShort, tested_all}
 use Rattle.mq_handle.specs.declared.choosing.Dispatch.{Dispatch}
 use Rattle.mq_handle.specs.declared.choosing.Ruling.TheVariants as rulings
 use Rattle.mq_handle.specs.declared.treating.Ended.TheVariants as ends

@@ -199,3 +199,11 @@ find_takable want after rows = find_same (is_asked false want after) (is_takable
 
 pub find_after : (want : Want) (after : Option Place) (rows : List Row) → find (is_asked true want after) rows ≡ find (is_after after) rows
 find_after want after rows = find_same (is_asked true want after) (is_after after) (asked_any want after) rows
+
+-- nothing is found in a lane that has no row
+pub bare : (lane : ℕ) (any : Bool) (want : Want) (after : Option Place) (slots : List (Option Row)) → NoneAtAll (is_taken lane true want None) slots → NoneAtAll (is_taken lane any want after) slots
+bare lane any want after slots none at row there = by (in_lane lane row) refl
+  where
+    by : (b : Bool) → in_lane lane row ≡ b → is_taken lane any want after row ≡ false
+    by true f = absurd (cc (sym (none at row there) ∙ ap (λ (b : Bool). b && is_asked true want None row) f))
+    by false f = ap (λ (b : Bool). b && is_asked any want after row) f

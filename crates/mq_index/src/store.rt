@@ -1,18 +1,19 @@
 //! Rows in slots, in order of arrival, with all that finds them.
-ghost use Rattle.std.specs.Prelude.{◌≡◌, ◌+◌, ◌<◌, ◌≤◌, ◌++◌, ◌∷◌, [], ℕ, List, Option, None, Some, OnOk, OnErr, IsSome, find, length, not, option_copied, slice_get, slice_set, vec_len, vec_capacity};
+ghost use Rattle.std.specs.Prelude.{◌≡◌, ◌+◌, ◌<◌, ◌≤◌, ◌++◌, ◌∷◌, [], ℕ, List, Option, None, Some, OnOk, OnErr, IsSome, true, find, length, not, option_copied, slice_get, slice_set, vec_len, vec_capacity};
 ghost use Rattle.mq_queue.specs.declared.row.Row as rows;
 ghost use Rattle.mq_queue.specs.Rows.{is_free};
 ghost use Rattle.mq_queue.specs.Counts.{HaveRoom, IsOneMore};
 ghost use Rattle.mq_queue.specs.Queues.{count_waiting, freed, is_at};
 ghost use Rattle.mq_index.specs.Lanes.{in_order};
-ghost use Rattle.mq_index.specs.Walks.{is_asked, is_taken, stored};
+ghost use Rattle.mq_index.specs.Walks.{NoneAtAll, is_asked, is_taken, stored};
 ghost use Rattle.mq_index.specs.Slots.{AreLow, IsHome, IsSound, NoRow, freed_so, held_so, one, row_in, total};
 ghost use Rattle.mq_index.specs.Stores.{StoreState};
 
 use crate::counts::{count_in, count_out, count_rows};
 use crate::homes::{IdentKey, drop_home, home_in, note_home, reserve_homes};
 use crate::index::Index;
-use crate::walk::{found_in, is_free, kind_for, placed};
+use crate::keys::Kind;
+use crate::walk::{found_in, has_lane, is_free, kind_for, placed};
 use mq_base::NoMemory;
 use mq_message::{Holder, Ident, Place, Want};
 use mq_queue::Row;
@@ -323,14 +324,40 @@ impl Store {
         }
     }
 
+    /// Whether a lane need not be looked through: rows are found by an id, and the lane has none.
+    fn is_bare(&self, kind: Kind, lane: u8, want: &Want) -> bool
+        ensures { result ≡ true → NoneAtAll (is_taken lane true want.now None) self.now.slots }
+    {
+        match kind {
+            Kind::Lane => false,
+            Kind::MsgId | Kind::CorrelId => {
+                if has_lane(
+                    self.index.chain(Kind::Lane),
+                    &self.slots,
+                    &self.marks,
+                    lane,
+                    want,
+                ) {
+                    false
+                } else {
+                    true
+                }
+            }
+        }
+    }
+
     /// The first row of a lane that is asked for.
     fn found_in(&self, lane: u8, any: bool, want: &Want, after: Option<Place>) -> Option<&Row>
         ensures { option_copied result ≡ find (is_taken lane any want.now after) (stored self.now.slots) }
     {
+        let kind = kind_for(any, want);
+        if self.is_bare(kind, lane, want) {
+            return None;
+        }
         found_in(
             &self.slots,
             &self.marks,
-            self.index.chain(kind_for(any, want)),
+            self.index.chain(kind),
             lane,
             any,
             want,

@@ -4,11 +4,12 @@ ghost use Rattle.std.specs.List.Sorted.{IsPartitionPoint};
 ghost use Rattle.mq_queue.specs.declared.row.Row as rows;
 ghost use Rattle.mq_queue.specs.Rows.{is_after, is_free, is_id, is_wanted};
 ghost use Rattle.mq_queue.specs.Queues.{is_at, is_fitting};
+ghost use Rattle.mq_index.specs.declared.keys.Kind.TheVariants.{Lane};
 ghost use Rattle.mq_index.specs.Keys.{key_by, keyed, same_key};
 ghost use Rattle.mq_index.specs.Chains.{IsChainOf};
 ghost use Rattle.mq_index.specs.Lanes.{in_lane, in_order};
 ghost use Rattle.mq_index.specs.Slots.{AreMarked, AreRising, row_in};
-ghost use Rattle.mq_index.specs.Walks.{AreKeyed, WalksAt, id_in, id_or, is_asked, is_taken, key_for, kind_for, kind_of, stored, taken_in};
+ghost use Rattle.mq_index.specs.Walks.{AreKeyed, NoneAtAll, WalksAt, id_in, id_or, is_asked, is_taken, key_for, kind_for, kind_of, stored, taken_in};
 
 use crate::chain::Chain;
 use crate::keys::{Key, Kind, key_by};
@@ -221,6 +222,19 @@ fn start_for(
                 chain.first(key, slots, kind)
             }
         }
+    }
+}
+
+/// Whether a lane has a row.
+pub fn has_lane(lanes: &Chain, slots: &[Option<Row>], marks: &[u64], lane: u8, want: &Want) -> bool
+    requires chain { IsChainOf (keyed Lane slots.now) lanes.now }
+    requires marked { (arrivals : ℕ) × AreMarked marks.now slots.now arrivals }
+    ensures { result ≡ false → NoneAtAll (is_taken lane true want.now None) slots.now }
+{
+    let key = key_for(lane, Kind::Lane, want);
+    match start_for(lanes, slots, marks, Kind::Lane, &key, None) {
+        None => false,
+        Some(_) => true,
     }
 }
 

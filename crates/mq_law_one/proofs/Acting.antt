@@ -73,6 +73,7 @@ use Rattle.mq_law_events.proofs.Locals.{behind as leads_behind}
 use Rattle.mq_law_events.proofs.Taking.{gone_users}
 use Rattle.mq_law_events.specs.Local.{side_of, sheet_of}
 use Rattle.mq_law_events.proofs.Events as events
+use Rattle.mq_law_manager.proofs.ShortSteps as shorts
 use Rattle.mq_law_events.proofs.Halting as halting
 use Rattle.mq_law_events.proofs.Getting.{none_behind}
 use Rattle.mq_law_events.proofs.Serving.{serves, post_served}
@@ -119,7 +120,7 @@ command_happens {E} m given n l e actor choice c a can =
     let p : Plain = n.manager in
     command_step m given n l e actor choice c (command c p) a
     (fits_by m given p l (λ reply ds k. ledgers.obey m (lines.Objects c) k) (calls.Act (acts.Obey (lines.Objects c))) (command c p) a.state
-    (λ h. (command_follows m given p l c a.fresh a.told h, halting.step_stops m given p l (command c p) a.fresh a.told (halting.command_short c p), joined (command c p) p h (command_keeps c p h.stocked.rows h.facts) (command_stocked c p h.stocked)))
+    (λ h. (command_follows m given p l c a.fresh a.told h, halting.step_stops m given p l (command c p) a.fresh a.told (shorts.command_short c p), joined (command c p) p h (command_keeps c p h.stocked.rows h.facts) (command_stocked c p h.stocked)))
     (λ h k. commands_noted m p c h)
     (command_down c p)) can
 

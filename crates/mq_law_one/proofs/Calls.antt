@@ -49,6 +49,7 @@ use Rattle.mq_law_events.specs.Posting.{post_get}
 use Rattle.mq_law_events.proofs.Events as events
 use Rattle.mq_law_events.proofs.Getting as getting
 use Rattle.mq_law_events.proofs.Leaving as leaving
+use Rattle.mq_law_manager.proofs.ShortSteps as shorts
 use Rattle.mq_law_events.proofs.Halting as halting
 use Rattle.mq_law_events.proofs.Sounds.{listed}
 use Rattle.mq_law_found.proofs.Putting.{puts_noted, puts_once_noted}
@@ -80,7 +81,7 @@ conn_happens {E} m given n l e actor choice qmgr appl a can =
     let p : Plain = n.manager in
     mqi_happens m given n l e actor (calls.Mqconn qmgr appl) choice replies.Connected (λ reply ds k. connect_if m appl (replies.Connected reply) k) (mqconn qmgr appl p) a
     (fits_by m given p l (λ reply ds k. connect_if m appl (replies.Connected reply) k) (calls.Mqconn qmgr appl) (mqconn qmgr appl p) a.state
-    (λ h. (events.connects m given p l qmgr appl a.fresh a.told, halting.step_stops m given p l (mqconn qmgr appl p) a.fresh a.told (halting.conn_short qmgr appl p), joined (mqconn qmgr appl p) p h (mqconn_keeps qmgr appl p h.facts) (conn_stocked qmgr appl p h.stocked)))
+    (λ h. (events.connects m given p l qmgr appl a.fresh a.told, halting.step_stops m given p l (mqconn qmgr appl p) a.fresh a.told (shorts.conn_short qmgr appl p), joined (mqconn qmgr appl p) p h (mqconn_keeps qmgr appl p h.facts) (conn_stocked qmgr appl p h.stocked)))
     (λ h k. conn_noted m qmgr appl p)
     (conn_down qmgr appl p))
     (λ answer c ds. refl) (λ reason. refl) can
@@ -91,7 +92,7 @@ open_happens {E} m given n l e actor choice hc name qmgr how a can =
     let p : Plain = n.manager in
     mqi_happens m given n l e actor (calls.Mqopen hc name qmgr how) choice replies.Opened (λ reply ds k. open_if m hc name qmgr how (replies.Opened reply) k) (mqopen hc name qmgr how p) a
     (fits_by m given p l (λ reply ds k. open_if m hc name qmgr how (replies.Opened reply) k) (calls.Mqopen hc name qmgr how) (mqopen hc name qmgr how p) a.state
-    (λ h. (events.opens m given p l hc name qmgr how a.fresh a.told, halting.step_stops m given p l (mqopen hc name qmgr how p) a.fresh a.told (halting.open_short hc name qmgr how p), joined (mqopen hc name qmgr how p) p h (mqopen_keeps hc name qmgr how p h.facts) (open_stocked hc name qmgr how p h.stocked)))
+    (λ h. (events.opens m given p l hc name qmgr how a.fresh a.told, halting.step_stops m given p l (mqopen hc name qmgr how p) a.fresh a.told (shorts.open_short hc name qmgr how p), joined (mqopen hc name qmgr how p) p h (mqopen_keeps hc name qmgr how p h.facts) (open_stocked hc name qmgr how p h.stocked)))
     (λ h k. open_noted m hc name qmgr how p)
     (λ z. let d = connected_down hc p z in (d.0, ap (λ (r : Result Connection Reason). going_on r (λ c. going_on (none_of (option_tests how)) (λ chosen. going_on (resolve p.definitions p.given.name name qmgr) (λ route. going_on (none_of (open_tests c how route p)) (λ fits. open_step c how route))))) d.1)))
     (λ answer c ds. refl) (λ reason. refl) can
@@ -102,7 +103,7 @@ close_happens {E} m given n l e actor choice hc ho a can =
     let p : Plain = n.manager in
     ended_happens m given n l e actor (calls.Mqclose hc ho) choice replies.Ended (λ reply ds k. close_if m hc ho (replies.Ended reply) k) (mqclose hc ho p) a
     (fits_by m given p l (λ reply ds k. close_if m hc ho (replies.Ended reply) k) (calls.Mqclose hc ho) (mqclose hc ho p) a.state
-    (λ h. (events.closes m given p l hc ho a.fresh a.told, halting.step_stops m given p l (mqclose hc ho p) a.fresh a.told (halting.close_short hc ho p), joined (mqclose hc ho p) p h (mqclose_keeps hc ho p h.facts) (close_stocked hc ho p h.stocked)))
+    (λ h. (events.closes m given p l hc ho a.fresh a.told, halting.step_stops m given p l (mqclose hc ho p) a.fresh a.told (shorts.close_short hc ho p), joined (mqclose hc ho p) p h (mqclose_keeps hc ho p h.facts) (close_stocked hc ho p h.stocked)))
     (λ h k. close_noted m hc ho p)
     (down_refused hc p (close_up ho)))
     (λ answer c ds. refl) (λ reason. refl) can
@@ -121,7 +122,7 @@ put_happens {E} m given n l e actor choice hc ho md body sync a can =
     let p : Plain = n.manager in
     mqi_happens m given n l e actor (calls.Mqput hc ho md body sync) choice replies.Put (λ reply ds k. ledgers.put sync m hc ho (ledgers.connection_of m hc k) (sent_ident (replies.Put reply) ds) md body k) (mqput hc ho md body sync p) a
     (fits_by m given p l (λ reply ds k. ledgers.put sync m hc ho (ledgers.connection_of m hc k) (sent_ident (replies.Put reply) ds) md body k) (calls.Mqput hc ho md body sync) (mqput hc ho md body sync p) a.state
-    (λ h. (events.puts m given p l hc ho md body sync a.fresh a.told a.timed, halting.step_stops m given p l (mqput hc ho md body sync p) a.fresh a.told (halting.put_short hc ho md body sync p), joined (mqput hc ho md body sync p) p h (mqput_keeps hc ho md body sync p h.facts) (put_stocked hc ho md body sync p h.stocked)))
+    (λ h. (events.puts m given p l hc ho md body sync a.fresh a.told a.timed, halting.step_stops m given p l (mqput hc ho md body sync p) a.fresh a.told (shorts.put_short hc ho md body sync p), joined (mqput hc ho md body sync p) p h (mqput_keeps hc ho md body sync p h.facts) (put_stocked hc ho md body sync p h.stocked)))
     (λ h k. puts_noted m p hc ho md body sync h k)
     (down_refused hc p (put_up ho md body sync p)))
     (λ answer c ds. refl) (λ reason. put_none sync m hc ho (ledgers.connection_of m hc l) md body l) can
@@ -132,7 +133,7 @@ put1_happens {E} m given n l e actor choice hc name qmgr md body sync a can =
     let p : Plain = n.manager in
     mqi_happens m given n l e actor (calls.Mqput1 hc name qmgr md body sync) choice replies.Put (λ reply ds k. ledgers.put1 sync m hc name qmgr (ledgers.connection_of m hc k) (sent_ident (replies.Put reply) ds) md body k) (mqput1 hc name qmgr md body sync p) a
     (fits_by m given p l (λ reply ds k. ledgers.put1 sync m hc name qmgr (ledgers.connection_of m hc k) (sent_ident (replies.Put reply) ds) md body k) (calls.Mqput1 hc name qmgr md body sync) (mqput1 hc name qmgr md body sync p) a.state
-    (λ h. (events.puts_once m given p l hc name qmgr md body sync a.fresh a.told a.timed, halting.step_stops m given p l (mqput1 hc name qmgr md body sync p) a.fresh a.told (halting.put1_short hc name qmgr md body sync p), joined (mqput1 hc name qmgr md body sync p) p h (mqput1_keeps hc name qmgr md body sync p h.facts) (put1_stocked hc name qmgr md body sync p h.stocked)))
+    (λ h. (events.puts_once m given p l hc name qmgr md body sync a.fresh a.told a.timed, halting.step_stops m given p l (mqput1 hc name qmgr md body sync p) a.fresh a.told (shorts.put1_short hc name qmgr md body sync p), joined (mqput1 hc name qmgr md body sync p) p h (mqput1_keeps hc name qmgr md body sync p h.facts) (put1_stocked hc name qmgr md body sync p h.stocked)))
     (λ h k. puts_once_noted m p hc name qmgr md body sync h k)
     (down_refused hc p (put1_resolved (resolve p.definitions p.given.name name qmgr) md body sync p)))
     (λ answer c ds. refl) (λ reason. put1_none sync m hc name qmgr (ledgers.connection_of m hc l) md body l) can
@@ -143,7 +144,7 @@ commit_happens {E} m given n l e actor choice hc a can =
     let p : Plain = n.manager in
     ended_happens m given n l e actor (calls.Mqcmit hc) choice replies.Ended (λ reply ds k. ledgers.when (is_ended (replies.Ended reply)) (ledgers.commit m hc) k) (mqcmit hc p) a
     (fits_by m given p l (λ reply ds k. ledgers.when (is_ended (replies.Ended reply)) (ledgers.commit m hc) k) (calls.Mqcmit hc) (mqcmit hc p) a.state
-    (λ h. (events.commits m given p l hc a.fresh a.told (listed hc.number p h), halting.step_stops m given p l (mqcmit hc p) a.fresh a.told (halting.commit_short hc p), joined (mqcmit hc p) p h (mqcmit_keeps hc p h.facts) (cmit_stocked hc p h.stocked)))
+    (λ h. (events.commits m given p l hc a.fresh a.told (listed hc.number p h), halting.step_stops m given p l (mqcmit hc p) a.fresh a.told (shorts.commit_short hc p), joined (mqcmit hc p) p h (mqcmit_keeps hc p h.facts) (cmit_stocked hc p h.stocked)))
     (λ h k. commits_noted m p hc h k)
     (down_refused hc p (λ c. Do (answers.Ok tt) (commit_part [] c ∷ []))))
     (λ answer c ds. refl) (λ reason. refl) can
@@ -154,7 +155,7 @@ back_happens {E} m given n l e actor choice hc a can =
     let p : Plain = n.manager in
     ended_happens m given n l e actor (calls.Mqback hc) choice replies.Ended (λ reply ds k. ledgers.when (is_ended (replies.Ended reply)) (ledgers.back_out m hc) k) (mqback hc p) a
     (fits_by m given p l (λ reply ds k. ledgers.when (is_ended (replies.Ended reply)) (ledgers.back_out m hc) k) (calls.Mqback hc) (mqback hc p) a.state
-    (λ h. (events.backs_out m given p l hc a.fresh a.told (listed hc.number p h), halting.step_stops m given p l (mqback hc p) a.fresh a.told (halting.back_short hc p), joined (mqback hc p) p h (mqback_keeps hc p h.facts) (back_stocked hc p h.facts h.stocked)))
+    (λ h. (events.backs_out m given p l hc a.fresh a.told (listed hc.number p h), halting.step_stops m given p l (mqback hc p) a.fresh a.told (shorts.back_short hc p), joined (mqback hc p) p h (mqback_keeps hc p h.facts) (back_stocked hc p h.facts h.stocked)))
     (λ h k. back_noted m hc p)
     (down_refused hc p (λ c. Do (answers.Ok tt) (backout_part c ∷ []))))
     (λ answer c ds. refl) (λ reason. refl) can
@@ -165,7 +166,7 @@ disc_happens {E} m given n l e actor choice hc a can =
     let p : Plain = n.manager in
     ended_happens m given n l e actor (calls.Mqdisc hc) choice replies.Ended (λ reply ds k. ledgers.when (is_ended (replies.Ended reply)) (λ x. ledgers.disconnect m hc (ledgers.commit m hc x)) k) (mqdisc hc p) a
     (fits_by m given p l (λ reply ds k. ledgers.when (is_ended (replies.Ended reply)) (λ x. ledgers.disconnect m hc (ledgers.commit m hc x)) k) (calls.Mqdisc hc) (mqdisc hc p) a.state
-    (λ h. (leaving.disconnects m given p l hc a.fresh a.told (listed hc.number p h), halting.step_stops m given p l (mqdisc hc p) a.fresh a.told (halting.disc_short hc p), joined (mqdisc hc p) p h (mqdisc_keeps hc p h.facts) (disc_stocked hc p h.stocked)))
+    (λ h. (leaving.disconnects m given p l hc a.fresh a.told (listed hc.number p h), halting.step_stops m given p l (mqdisc hc p) a.fresh a.told (shorts.disc_short hc p), joined (mqdisc hc p) p h (mqdisc_keeps hc p h.facts) (disc_stocked hc p h.stocked)))
     (λ h k. disconnects_noted m p hc h k)
     (down_refused hc p (λ c. Do (answers.Ok tt) (commit_part (Disconnect c.number ∷ []) c ∷ []))))
     (λ answer c ds. refl) (λ reason. refl) can

@@ -84,7 +84,7 @@ use Rattle.mq_spec_node.specs.Replays.{IsOwn}
 use Rattle.mq_spec_network.specs.Order.{unit_received}
 use Rattle.mq_law_rows.proofs.Lists.{bool_case}
 use Rattle.mq_law_events.proofs.Taking.{removed_all}
-use Rattle.mq_law_events.proofs.Halting.{tested_all, going_all, live_all, open_all}
+use Rattle.mq_law_manager.proofs.ShortSteps.{tested_all, going_all, live_all, open_all}
 use Rattle.mq_law_one.specs.Alone.{IsOwnCall}
 use Rattle.mq_law_one.proofs.Acting.{operated_is, no_deed, turn_none, timeout_none}
 

@@ -57,7 +57,8 @@ use Rattle.mq_law_manager.proofs.Stocks.{move_stocked, discard_stocked}
 use Rattle.mq_law_events.specs.Tied.{AreShelved, IsTold, IsFresh, Follow}
 use Rattle.mq_law_events.specs.Posting.{StopFollows}
 use Rattle.mq_law_events.proofs.Events as events
-use Rattle.mq_law_events.proofs.Halting.{IsShort, short_stops, tested_all}
+use Rattle.mq_law_events.proofs.Halting.{short_stops}
+use Rattle.mq_law_manager.proofs.ShortSteps.{IsShort, tested_all}
 use Rattle.mq_law_events.proofs.Moving.{move_follows, moved, bare_ident}
 use Rattle.mq_law_events.proofs.Serving.{discard_follows}
 use Rattle.mq_law_events.proofs.Taking.{removed_all}

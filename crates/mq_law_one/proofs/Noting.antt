@@ -23,7 +23,7 @@ use Rattle.mq_calls.specs.Steps.Step.{Do}
 use Rattle.mq_spec_manager.specs.Handles.{connected, conn_tests, close_up, close_handle, option_tests, open_tests, open_step, new_connection, new_handle, new_hconn, mqconn, mqopen, mqclose}
 use Rattle.mq_spec_manager.specs.Units.{mqback, backout_part}
 use Rattle.mq_spec_manager.specs.Triggers.{Never, serve_by, serve_into, put_trigger, takes_it}
-use Rattle.mq_law_events.proofs.Halting.{tested_all, going_all, live_all, open_all}
+use Rattle.mq_law_manager.proofs.ShortSteps.{tested_all, going_all, live_all, open_all}
 use Rattle.mq_law_found.specs.Finds.{PartNotes, StepNotes}
 use Rattle.mq_law_found.proofs.Finding.{one_noted}
 

@@ -109,24 +109,24 @@ kept_harden tells read v new k up channel note result can named low m w =
     kept_by tells read v new k Anywhere (harden channel note v.plain) result m w (λ d. absurd (true_false _ d up)) (λ s. harden_harmless_whole channel note v.plain can) (harden_can channel note v.plain named low)
     (well_harden (manager_of v) (manager_of new) k.well up channel note result can m)
 
--- a session is closed: its channel has a name where the log tells of it
+-- a session is closed, or a unit in doubt settled: its channel has a name where the log tells of it
 ending_low : (note : Note) → IsEnding note → IsLowNote note
 ending_low (notes.Session partner session) h = absurd h
-ending_low (notes.Resolved unit commit operator) h = absurd h
+ending_low (notes.Resolved unit commit operator) h = tt
 ending_low (notes.Bound partner session last) h = tt
 ending_low (notes.Closed session) h = tt
 ending_low (notes.SeqSet end last) h = tt
 
 ending_is : (note : Note) → is_ending note ≡ true → IsEnding note
 ending_is (notes.Session partner session) e = absurd cc
-ending_is (notes.Resolved unit commit operator) e = absurd cc
+ending_is (notes.Resolved unit commit operator) e = tt
 ending_is (notes.Bound partner session last) e = absurd cc
 ending_is (notes.Closed session) e = tt
 ending_is (notes.SeqSet end last) e = absurd cc
 
 ending_makes : (channel : List ℕ) (note : Note) (p : Plain) → IsEnding note → StepMakes (harden channel note p)
 ending_makes channel (notes.Session partner session) p h = absurd h
-ending_makes channel (notes.Resolved unit commit operator) p h = absurd h
+ending_makes channel (notes.Resolved unit commit operator) p h = (tt, tt)
 ending_makes channel (notes.Bound partner session last) p h = absurd h
 ending_makes channel (notes.Closed session) p h = (tt, tt)
 ending_makes channel (notes.SeqSet end last) p h = absurd h

@@ -1,7 +1,8 @@
--- A log tells nothing of a channel whose name is blank: so what a channel end can close has a name.
+-- A log tells nothing of a channel whose name is blank: so what a channel end can close or settle has a name.
 use Rattle.std.proofs.Common.{◌≡◌, ℕ, ◌+◌, ◌<◌, Bool, true, false, List, [], ◌∷◌, length, refl, ap, arith, sym, subst}
 use Rattle.std.specs.Prelude.{Option, Some, None, Result, Ok, Err, if◌then◌else◌, ◌||◌, ◌==◌}
 use Rattle.std.specs.List.{AllByRecursion}
+use Rattle.std.specs.Option.{option_map}
 use Rattle.std.specs.Str.{bytes_eq}
 use Rattle.mq_message.specs.declared.message.Ident.{Ident}
 use Rattle.mq_message.specs.declared.place.Holder.TheVariants as holders
@@ -27,13 +28,13 @@ use Rattle.mq_calls.specs.declared.state.SenderSide.{SenderSide}
 use Rattle.mq_calls.specs.declared.state.ReceiverSide.{ReceiverSide}
 use Rattle.mq_calls.specs.Changes.{comes_before, set_named, off_lists}
 use Rattle.mq_calls.specs.Images.{lasting}
-use Rattle.mq_calls.specs.Reads.{receiver_in, receiver_data}
+use Rattle.mq_calls.specs.Reads.{sender_in, receiver_in, sender_data, receiver_data, in_doubt_of}
 use Rattle.mq_calls.specs.State.{Given, Plain}
 use Rattle.mq_calls.specs.State.Which.{Among}
 use Rattle.mq_calls.specs.declared.image.Image.{Image}
-use Rattle.mq_calls.specs.Words.{receiver_or}
+use Rattle.mq_calls.specs.Words.{Luw, receiver_or}
 use Rattle.mq_log.specs.Bodies.{frame}
-use Rattle.mq_spec_manager.specs.Agents.{CanHarden}
+use Rattle.mq_spec_manager.specs.Agents.{CanHarden, unit_of}
 use Rattle.mq_spec_log.specs.Applies.{Start, applies}
 use Rattle.mq_spec_log.specs.Shelves.{added, added_all, removed, removed_all, with_sender, with_receiver, sender_at, receiver_at, on_shelves, on_all, held_rows}
 use Rattle.mq_spec_log.specs.Records.{doing, settled_rows}
@@ -157,19 +158,28 @@ pub image_names : (g : Given) (start : Start) (bodies : List (List ℕ)) (i : Im
 image_names g start bodies i e fits = bool_case (begins bodies) (λ b. (if b then image_from g start 0 bodies empty_image else Err 0) ≡ Ok i → AreNamedSides i)
     (λ z f. from_names g start 0 bodies empty_image i f fits (record { senders = tt; receivers = tt })) (λ z f. absurd cc) e
 
--- ---- what can be closed
+-- ---- what can be closed or settled
+
+sender_named : (channel : List ℕ) (sides : List SenderSide) (d : SenderData) → HaveNames (λ (s : SenderSide). s.channel) sides → sender_in channel sides ≡ Some d → 0 < length channel
+sender_named channel [] d h e = absurd cc
+sender_named channel (s ∷ ss) d h e = bool_case (bytes_eq channel s.channel) (λ b. bytes_eq channel s.channel ≡ b → (if b then Some s.hardened else sender_in channel ss) ≡ Some d → 0 < length channel)
+    (λ z w f. subst (λ (n : List ℕ). 0 < length n) (sym (name_is channel s.channel w)) h.0) (λ z w f. sender_named channel ss d h.1 f) refl e
 
 receiver_named : (channel : List ℕ) (sides : List ReceiverSide) (d : ReceiverData) → HaveNames (λ (r : ReceiverSide). r.channel) sides → receiver_in channel sides ≡ Some d → 0 < length channel
 receiver_named channel [] d h e = absurd cc
 receiver_named channel (r ∷ rs) d h e = bool_case (bytes_eq channel r.channel) (λ b. bytes_eq channel r.channel ≡ b → (if b then Some r.hardened else receiver_in channel rs) ≡ Some d → 0 < length channel)
     (λ z w f. subst (λ (n : List ℕ). 0 < length n) (sym (name_is channel r.channel w)) h.0) (λ z w f. receiver_named channel rs d h.1 f) refl e
 
+doubt_named : (channel : List ℕ) (sides : List SenderSide) (o : Option SenderData) (unit : Luw) → HaveNames (λ (s : SenderSide). s.channel) sides → sender_in channel sides ≡ o → option_map unit_of (in_doubt_of o) ≡ Some unit → 0 < length channel
+doubt_named channel sides None unit h e f = absurd cc
+doubt_named channel sides (Some d) unit h e f = sender_named channel sides d h e
+
 session_named : (channel : List ℕ) (sides : List ReceiverSide) (o : Option ReceiverData) (session : ℕ) → HaveNames (λ (r : ReceiverSide). r.channel) sides → receiver_in channel sides ≡ o → 0 < session → session ≡ (receiver_or o).session → 0 < length channel
 session_named channel sides None session h e low f = absurd (omega (arith, low, f))
 session_named channel sides (Some d) session h e low f = receiver_named channel sides d h e
 
 pub ending_named : (channel : List ℕ) (note : Note) (p : Plain) → AreNamedSides (lasting p) → CanHarden channel note p → IsEnding note → 0 < length channel
-ending_named channel (notes.Resolved unit commit operator) p h can ending = absurd ending
+ending_named channel (notes.Resolved unit commit operator) p h can ending = doubt_named channel p.channels.senders (sender_data channel p) unit h.senders refl can.0
 ending_named channel (notes.Closed session) p h can ending = session_named channel p.channels.receivers (receiver_data channel p) session h.receivers refl can.0 can.1
 ending_named channel (notes.Session partner session) p h can ending = absurd ending
 ending_named channel (notes.Bound partner session last) p h can ending = absurd ending

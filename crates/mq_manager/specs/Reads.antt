@@ -39,12 +39,14 @@ abbrev pub IsLowNote : Note → Type 0
 IsLowNote (notes.Session partner session) = session < 2 ^ 61
 IsLowNote _ = Unit {0}
 
--- it closes a session
+-- it closes a session, or settles a unit in doubt
 abbrev pub IsEnding : Note → Type 0
+IsEnding (notes.Resolved unit commit operator) = Unit {0}
 IsEnding (notes.Closed session) = Unit {0}
 IsEnding _ = ⊥
 
 abbrev pub is_ending : Note → Bool
+is_ending (notes.Resolved unit commit operator) = true
 is_ending (notes.Closed session) = true
 is_ending _ = false
 
@@ -56,6 +58,6 @@ abbrev pub is_low : Note → Bool
 is_low (notes.Session partner session) = nat_lt session (2 ^ 61)
 is_low _ = true
 
--- a session that can be closed has a name
+-- what can be closed or settled has a name
 abbrev pub can_harden : List ℕ → Note → Bool
 can_harden channel note = is_ending note || (has_name channel && is_low note)

@@ -1,6 +1,6 @@
 //! The queue manager and its calls.
-ghost use Rattle.std.specs.Prelude.{◌≡◌, ◌≤◌, [], false, Ok, MatchResult, option_copied, option_map};
-ghost use Rattle.mq_calls.specs.Words.{Meets, MeetsInRoom, is_up};
+ghost use Rattle.std.specs.Prelude.{◌≡◌, ◌≤◌, [], true, false, is_some, Ok, MatchResult, option_copied, option_map};
+ghost use Rattle.mq_calls.specs.Words.{Meets, MeetsInRoom, is_up, receiver_data};
 ghost use Rattle.mq_core.specs.Values.{WritesLog, manager_of};
 ghost use Rattle.mq_calls.specs.Words.{MeetsOrWants};
 ghost use Rattle.mq_spec_manager.specs.Commands.{command};
@@ -381,15 +381,16 @@ impl<D: Disk> Manager<D> {
         mq_agents::leave(&mut self.core, channel);
     }
 
-    /// Whether a receiver is bound from now on. Only a first bond of a channel takes memory: to end one takes none.
+    /// Whether a receiver is bound from now on. Of one that has hardened something it takes no memory, nor where a bond ends.
     ///
     /// # Errors
     ///
-    /// No memory, of a bond that begins; nothing has changed.
+    /// No memory, of a channel of which nothing is kept; nothing has changed.
     pub fn set_bound(&mut self, channel: &ChName, bound: bool) -> Result<(), NoMemory>
         requires up { IsUp self.old.plain }
         ensures meets { MeetsOrWants (manager_of self.old) (set_bound channel.now bound self.old.plain) (by_memory result) (manager_of self.new) }
         ensures room { bound ≡ false → MeetsInRoom (manager_of self.old) (set_bound channel.now bound self.old.plain) (by_memory result) (manager_of self.new) }
+        ensures seated { is_some (receiver_data channel.now self.old.plain) ≡ true → MeetsInRoom (manager_of self.old) (set_bound channel.now bound self.old.plain) (by_memory result) (manager_of self.new) }
         ensures told { WritesLog self.old (set_bound channel.now bound self.old.plain) (by_memory result) self.new }
     {
         mq_agents::set_bound(&mut self.core, channel, bound)
@@ -453,8 +454,8 @@ impl<D: Disk> Manager<D> {
     /// # Errors
     ///
     /// The disk or the cut stopped the write, and the manager is down; no memory, and nothing has changed: also where the channel's
-    /// name is blank, or a session comes to 2^61, which no restart would read. `Closed` takes no memory, and never lacks
-    /// it: its room was made as the session was hardened.
+    /// name is blank, or a session comes to 2^61, which no restart would read. `Closed` and `Resolved` take no memory, and never lack
+    /// it: their room was made as the session or the unit was hardened.
     pub fn harden(&mut self, channel: &ChName, note: &Note) -> Result<(), AgentStop>
         requires up { IsUp self.old.plain }
         requires can { CanHarden channel.now note.now self.old.plain }

@@ -51,7 +51,7 @@ fn is_ending(note: &Note) -> bool
 {
     match note {
         Note::Session { .. } => false,
-        Note::Resolved { .. } => false,
+        Note::Resolved { .. } => true,
         Note::Bound { .. } => false,
         Note::Closed { .. } => true,
         Note::SeqSet { .. } => false,
@@ -64,8 +64,8 @@ fn can_harden(channel: &ChName, note: &Note) -> bool
     is_ending(note) || has_name(channel) && is_low(note)
 }
 
-/// A channel's end hardens a note; where no restart would read its record, there is no memory for it. A session is closed
-/// without memory.
+/// A channel's end hardens a note; where no restart would read its record, there is no memory for it. A session is closed, and a unit
+/// in doubt settled, without memory.
 #[tactic(auto, using(crate::proofs::WantLaws::harden_wants, crate::proofs::WantLaws::harden_untold))]
 pub fn harden_note<D: Disk>(
     core: &mut Core<D>,

@@ -17,7 +17,7 @@ use mq_core::{Core, Parts};
 use mq_disk::Disk;
 use mq_events::Told;
 use mq_manager::Manager;
-use mq_sides::{drop_side, receiver_data};
+use mq_sides::receiver_data;
 use mq_turns::{hardened, has_run, ran};
 
 #[tactic(auto, using(crate::proofs::CloseLaws::open_or))]
@@ -53,8 +53,7 @@ fn unbind_in<D: Disk>(core: &mut Core<D>, channel: &ChName)
     ensures meets { MeetsOrWants (manager_of core.old) (set_bound channel.now false core.old.plain) (Ok tt) (manager_of core.new) }
     ensures told { WritesLog core.old (set_bound channel.now false core.old.plain) (Ok tt) core.new }
 {
-    core.begin_call();
-    drop_side(core.parts.alloc, &mut core.parts.ends.bound, channel);
+    mq_agents::unbind(core, channel);
 }
 
 /// A receiver isn't bound from now on. It takes no memory.

@@ -1,7 +1,8 @@
 -- The rows of one holder: gone through, freed or taken out one after another.
-use Rattle.std.proofs.Common.{◌≡◌, ℕ, zero, suc, ◌+◌, ◌≤◌, Bool, true, false, cond, List, [], ◌∷◌, ◌++◌, length, refl, sym, ap, subst, ◌∙◌, arith}
+use Rattle.std.proofs.Common.{◌≡◌, ℕ, zero, suc, ◌+◌, ◌<◌, ◌≤◌, Bool, true, false, cond, List, [], ◌∷◌, ◌++◌, length, refl, sym, ap, subst, ◌∙◌, arith}
 use Rattle.std.specs.Prelude.{Option, Some, None, find, filter, map, not, ◌&&◌, ◌||◌, IfSome}
 use Rattle.std.specs.List.{AllByRecursion, list_any}
+use Rattle.std.proofs.lemmas.List.{length-append}
 use Rattle.mq_message.specs.declared.message.Ident.{Ident}
 use Rattle.mq_message.specs.declared.place.Place.{Place}
 use Rattle.mq_message.specs.declared.place.Holder.{Holder}
@@ -97,6 +98,15 @@ no_rows (x ∷ xs) le = absurd (omega (arith, le))
 pub listed_end : (so_far : List Remove) (by : Holder) (after : Option Place) (q : Queue) (n : ℕ) → count_left by after q.rows + n ≤ length q.rows → length q.rows ≤ n → so_far ++ held_left by after q ≡ so_far
 listed_end so_far by after q n left all =
     ap (λ (rs : List Row). so_far ++ map (named_row q.name) rs) (no_rows (filter (holds by) (rows_after after q.rows)) (omega (arith, left, all))) ∙ nothing_more so_far
+
+-- room that is there is less than all, where it is less than what comes next
+pub short_at : (so_far here rest old all : List Remove) (room left : ℕ) → (so_far ++ here) ++ rest ≡ old ++ all → room + length old ≤ left + length so_far → left < length here → room < length all
+short_at so_far here rest old all room left e stays short =
+    let whole = ap length e in
+    let a = length-append (so_far ++ here) rest in
+    let b = length-append so_far here in
+    let c = length-append old all in
+    omega (arith, whole, a, b, c, stays, short)
 
 -- slot by slot
 cons_slot : (by : Holder) (slot : Option QueueState) (slots : List (Option QueueState)) → held_at_slot by slot ++ held_rows by (present slots) ≡ held_rows by (present (slot ∷ slots))

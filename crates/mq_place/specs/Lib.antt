@@ -4,3 +4,4 @@ pub mod Homes
 pub mod Held
 pub mod Due
 pub mod Deadlines
+pub mod Rooms

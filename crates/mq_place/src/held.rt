@@ -1,14 +1,16 @@
 //! The rows that one holder has: listed, freed, taken out, on one queue and on all.
-ghost use Rattle.std.specs.Prelude.{◌≡◌, ◌<◌, ◌++◌, IfSome, None, true, OnOk, option_copied, find, vec_len, vec_capacity};
+ghost use Rattle.std.specs.Prelude.{◌≡◌, ◌<◌, ◌++◌, IfSome, None, true, OnErr, OnOk, length, option_copied, find, vec_len, vec_capacity};
 ghost use Rattle.std.specs.List.{list_any};
 ghost use Rattle.mq_queue.specs.Rows.{held_by, keep, retag};
 ghost use Rattle.mq_queue.specs.Queues.{AreDistinct};
 ghost use Rattle.mq_place.specs.States.{holds, has_held_ident, held_on, held_rows, is_other_row, let_go, on_rows, rows_after};
 ghost use Rattle.mq_place.specs.Slots.{present, slot_at, slot_changed, slots_changed};
 ghost use Rattle.mq_place.specs.Held.{held_at_slot};
+ghost use Rattle.mq_place.specs.Rooms.{RoomStays};
 
 use crate::local::LocalRows;
-use mq_base::{Items, NoMemory};
+use crate::rooms::RowRoom;
+use mq_base::NoMemory;
 use mq_calls::Remove;
 use mq_message::{Holder, Place};
 use mq_queue::{Queue, Row};
@@ -61,9 +63,12 @@ impl<Q: Queue + Drop> LocalRows<Q> {
         }
     }
 
-    /// Adds the rows that a holder has, in order of place. After a refusal some may be there.
-    pub fn held_rows(&self, by: &Holder, rows: &mut Items<Remove>) -> Result<(), NoMemory>
-        ensures { OnOk result (rows.new ≡ rows.old ++ held_on by.now self.now.queue) }
+    /// Names the rows that a holder has, in order of place. After a refusal some may be named; where there is room for all of them
+    /// it takes no memory.
+    pub fn held_rows(&self, by: &Holder, rows: &mut RowRoom) -> Result<(), NoMemory>
+        ensures rows { OnOk result (rows.new.rows ≡ rows.old.rows ++ held_on by.now self.now.queue) }
+        ensures room { RoomStays rows.old rows.new }
+        ensures memory { OnErr result (rows.old.room < length (held_on by.now self.now.queue)) }
     {
         let _len = self.len();
         let mut after = None;
@@ -75,8 +80,9 @@ impl<Q: Queue + Drop> LocalRows<Q> {
                 queue: *self.name(),
                 ident: row.message.ident,
             };
-            if rows.push(named).is_err() {
-                return Err(NoMemory);
+            match rows.add(named) {
+                Ok(()) => {}
+                Err(NoMemory) => return Err(NoMemory),
             }
             after = Some(row.place);
         }
@@ -140,10 +146,12 @@ fn held_rows_at<Q: Queue + Drop>(
     slots: &Vec<Option<LocalRows<Q>>>,
     at: usize,
     by: &Holder,
-    rows: &mut Items<Remove>,
+    rows: &mut RowRoom,
 ) -> Result<(), NoMemory>
     requires at { at < vec_len slots.now }
-    ensures { OnOk result (rows.new ≡ rows.old ++ held_at_slot by.now (slot_at slots.now.items at)) }
+    ensures rows { OnOk result (rows.new.rows ≡ rows.old.rows ++ held_at_slot by.now (slot_at slots.now.items at)) }
+    ensures room { RoomStays rows.old rows.new }
+    ensures memory { OnErr result (rows.old.room < length (held_at_slot by.now (slot_at slots.now.items at))) }
 {
     match &slots[at] {
         None => Ok(()),
@@ -173,17 +181,20 @@ pub fn remove_held<Q: Queue + Drop>(slots: &mut Vec<Option<LocalRows<Q>>>, by: &
     }
 }
 
-/// Adds the rows that a holder has, queue by queue.
+/// Names the rows that a holder has, queue by queue. Where there is room for all of them it takes no memory.
 pub fn held_rows<Q: Queue + Drop>(
     slots: &Vec<Option<LocalRows<Q>>>,
     by: &Holder,
-    rows: &mut Items<Remove>,
+    rows: &mut RowRoom,
 ) -> Result<(), NoMemory>
-    ensures { OnOk result (rows.new ≡ rows.old ++ held_rows by.now (present slots.now.items)) }
+    ensures rows { OnOk result (rows.new.rows ≡ rows.old.rows ++ held_rows by.now (present slots.now.items)) }
+    ensures room { RoomStays rows.old rows.new }
+    ensures memory { OnErr result (rows.old.room < length (held_rows by.now (present slots.now.items))) }
 {
     for at in 0..slots.len() {
-        if held_rows_at(slots, at, by, rows).is_err() {
-            return Err(NoMemory);
+        match held_rows_at(slots, at, by, rows) {
+            Ok(()) => {}
+            Err(NoMemory) => return Err(NoMemory),
         }
     }
     Ok(())

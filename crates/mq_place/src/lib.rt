@@ -8,9 +8,11 @@ mod laws;
 mod local;
 mod named;
 mod queues;
+mod rooms;
 mod slots;
 
 pub use due::DueAt;
 pub use laws::calls_are_changes;
 pub use local::LocalRows;
 pub use queues::Queues;
+pub use rooms::RowRoom;

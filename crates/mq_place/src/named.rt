@@ -4,17 +4,18 @@ ghost use Rattle.mq_queue.specs.Queues.{message_of};
 ghost use Rattle.mq_calls.specs.Changes.{kept_in, held_in, released_in, made_due, forgotten};
 ghost use Rattle.mq_calls.specs.State.Which.{Among, HeldBy, HeldByUnits, Nonpersistent};
 ghost use Rattle.mq_place.specs.States.{held_rows, state_in, state_or, change_state, on_queue, on_queues, served, switched_on, fresh_state, without_state, expecting, unpended, arrived, with_lanes, rows_in, CanPlace, AreApart};
+ghost use Rattle.mq_place.specs.Rooms.{RoomStays};
 
 use crate::held::{free_held, held_rows, remove_held};
 use crate::local::LocalRows;
+use crate::rooms::RowRoom;
 use crate::slots::{
     close_gaps, drop_volatile, expect_at, forget, free_units, hold_at, hold_each_at, lanes_at,
     make_due_at, place_at, release_at, release_each_at, remove_at, serve_at, switch_on_at,
     unpend_at,
 };
 use indexmap::IndexMap;
-use mq_base::{Items, NoMemory, QName};
-use mq_calls::Remove;
+use mq_base::{NoMemory, QName};
 use mq_message::{Holder, Ident, Message};
 use mq_queue::Queue;
 use std::alloc::Global;
@@ -240,9 +241,12 @@ impl<Q: Queue + Drop> NamedQueues<Q> {
         remove_held(&mut self.slots, by);
     }
 
-    /// Adds the rows that a holder has, in order of definition, and of place on each queue. After a refusal some may be there.
-    pub fn held_rows(&self, by: &Holder, rows: &mut Items<Remove>) -> Result<(), NoMemory>
-        ensures { OnOk result (rows.new ≡ rows.old ++ held_rows by.now self.now.states) }
+    /// Names the rows that a holder has, in order of definition, and of place on each queue. After a refusal some may be named; where
+    /// there is room for all of them it takes no memory.
+    pub fn held_rows(&self, by: &Holder, rows: &mut RowRoom) -> Result<(), NoMemory>
+        ensures rows { OnOk result (rows.new.rows ≡ rows.old.rows ++ held_rows by.now self.now.states) }
+        ensures room { RoomStays rows.old rows.new }
+        ensures memory { OnErr result (rows.old.room < length (held_rows by.now self.now.states)) }
     {
         held_rows(&self.slots, by, rows)
     }

@@ -8,14 +8,15 @@ ghost use Rattle.mq_calls.specs.Changes.{kept_in, held_in, released_in, made_due
 ghost use Rattle.mq_calls.specs.State.Which.{Among, HeldBy, HeldByUnits, Nonpersistent};
 ghost use Rattle.mq_place.specs.Due.{IsDueAt};
 ghost use Rattle.mq_place.specs.States.{held_rows, state_in, state_or, change_state, on_queue, on_queues, served, switched_on, fresh_state, without_state, expecting, unpended, arrived, with_lanes, depth_of, size_of, rows_in, free_idents, is_free_after, row_at, rows_removed, CanPlace, IsNowhere, AreApart};
+ghost use Rattle.mq_place.specs.Rooms.{RoomStays};
 
 use crate::due::{DueAt, DueNames};
 use crate::homes::{IdentKey, drop_home, home_of, note_home, reserve_homes};
 use crate::local::LocalRows;
 use crate::named::NamedQueues;
+use crate::rooms::RowRoom;
 use indexmap::IndexMap;
 use mq_base::{Items, NoMemory, QName};
-use mq_calls::Remove;
 use mq_message::{Holder, Ident, Message, Place};
 use mq_queue::{Queue, Row};
 use std::alloc::Global;
@@ -398,9 +399,12 @@ impl<Q: Queue + Drop> Queues<Q> {
         self.named.remove_held(by);
     }
 
-    /// Adds the rows that a holder has, in order of definition, and of place on each queue. After a refusal some may be there.
-    pub fn held_rows(&self, by: &Holder, rows: &mut Items<Remove>) -> Result<(), NoMemory>
-        ensures { OnOk result (rows.new ≡ rows.old ++ held_rows by.now self.now.states) }
+    /// Names the rows that a holder has, in order of definition, and of place on each queue. After a refusal some may be named; where
+    /// there is room for all of them it takes no memory.
+    pub fn held_rows(&self, by: &Holder, rows: &mut RowRoom) -> Result<(), NoMemory>
+        ensures rows { OnOk result (rows.new.rows ≡ rows.old.rows ++ held_rows by.now self.now.states) }
+        ensures room { RoomStays rows.old rows.new }
+        ensures memory { OnErr result (rows.old.room < length (held_rows by.now self.now.states)) }
     {
         self.named.held_rows(by, rows)
     }

@@ -3,3 +3,4 @@ pub mod RowLaws
 pub mod ShelfLaws
 pub mod ObjectLaws
 pub mod BuildLaws
+pub mod SeatLaws

@@ -1,5 +1,6 @@
 -- The objects and local queues that an image tells, as a manager keeps them, and how they are built one after another.
-use Rattle.std.specs.Prelude.{◌≡◌, ℕ, ◌<◌, ◌≤◌, ◌^◌, Bool, false, List, [], ◌∷◌, ◌++◌, length, map, sum_by, Option, Some, None, IfSome, All, AllPairs}
+use Rattle.std.specs.Prelude.{◌≡◌, ℕ, ◌<◌, ◌≤◌, ◌^◌, Bool, true, false, List, [], ◌∷◌, ◌++◌, length, map, sum_by, Option, Some, None, IfSome, All, AllPairs}
+use Rattle.std.specs.List.{AllByRecursion}
 use Rattle.std.specs.Str.{bytes_eq}
 use Rattle.mq_message.specs.declared.message.Ident.{Ident}
 use Rattle.mq_message.specs.declared.place.Holder.{Holder}
@@ -16,6 +17,8 @@ use Rattle.mq_calls.specs.Images.{queue_on}
 use Rattle.mq_calls.specs.declared.image.Image.{Image}
 use Rattle.mq_calls.specs.declared.image.Shelf.{Shelf}
 use Rattle.mq_calls.specs.declared.state.SenderSide.{SenderSide}
+use Rattle.mq_calls.specs.declared.state.ReceiverSide.{ReceiverSide}
+use Rattle.mq_sides.specs.Bonds.{has_seat}
 use Rattle.mq_calls.specs.Recovery.{AreApart, listed}
 use Rattle.mq_rebuild.specs.declared.building.Built.{Built}
 use Rattle.mq_place.specs.States.{QueueState, state_in, change_state, on_queues, fresh_state, expecting, arrived, CanPlace, IsNowhere}
@@ -86,11 +89,13 @@ pub record IsRead (d : Definitions) (shelves : List Shelf) : Type 0 where
   pub distinct : All (λ (s : Shelf). AllPairs (λ (x y : Row). same_ident x.message.ident y.message.ident ≡ false) s.rows) shelves
   pub apart : AllPairs AreApart shelves
 
--- what a manager is built of from an image, with room for the rows of all its units in doubt
+-- what a manager is built of from an image, with a place for each receiver that may be bound, and with room for the rows of all its units in doubt
 pub record IsBuilt (image : Image) (b : Built) : Type 0 where
   pub defs : b.defs.definitions ≡ image.definitions
   pub queues : b.queues.states ≡ map (state_on image.definitions) image.shelves
   pub senders : b.senders ≡ image.senders
   pub receivers : b.receivers ≡ image.receivers
+  pub bound : b.bound.bound ≡ []
+  pub seats : AllByRecursion (λ (r : ReceiverSide). has_seat r.channel b.bound.seats ≡ true) image.receivers
   pub rows : sum_by (λ (s : SenderSide). length (listed s.hardened.in_doubt)) image.senders ≤ b.rows.room
   pub incarnation : b.incarnation ≡ image.incarnation

@@ -5,13 +5,13 @@ ghost use Rattle.mq_rebuild.specs.Rebuilt.{IsBuilt};
 
 use crate::objects::defs_of;
 use crate::shelves::queues_of;
-use crate::sides::{receivers_of, rows_for, senders_of};
+use crate::sides::{receivers_of, rows_for, seats_for, senders_of};
 use mq_base::{Items, NoMemory};
 use mq_calls::Image;
 use mq_index::IndexedQueue;
 use mq_objects::Defs;
-use mq_place::Queues;
-use mq_sides::{KeptReceiver, KeptSender, RowRoom};
+use mq_place::{Queues, RowRoom};
+use mq_sides::{Bonds, KeptReceiver, KeptSender};
 use std::alloc::Global;
 
 /// What a manager is built of from an image.
@@ -25,6 +25,8 @@ pub struct Built {
     pub senders: Items<KeptSender>,
     /// What each receiver channel has hardened, in order of the channels' names, with its room.
     pub receivers: Items<KeptReceiver>,
+    /// A place for each receiver among those that may be bound.
+    pub bound: Bonds,
     /// Room for the rows of all units in doubt.
     pub rows: RowRoom,
     /// The greatest incarnation that was started, 0 for none.
@@ -61,6 +63,10 @@ pub fn build(alloc: Global, image: Image) -> Result<Built, NoMemory>
         Ok(rows) => rows,
         Err(_) => return Err(NoMemory),
     };
+    let bound = match seats_for(alloc, &receivers) {
+        Ok(bound) => bound,
+        Err(_) => return Err(NoMemory),
+    };
     let senders = match senders_of(alloc, senders) {
         Ok(senders) => senders,
         Err(_) => return Err(NoMemory),
@@ -74,6 +80,7 @@ pub fn build(alloc: Global, image: Image) -> Result<Built, NoMemory>
         queues,
         senders,
         receivers,
+        bound,
         rows,
         incarnation,
     })

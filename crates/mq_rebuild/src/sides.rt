@@ -1,11 +1,15 @@
 //! What channel ends have hardened, kept with the room that a manager needs for it.
-ghost use Rattle.std.specs.Prelude.{◌≡◌, ◌∷◌, [], ◌++◌, ◌≤◌, length, sum_by, IfOk, OnOk};
+ghost use Rattle.std.specs.Prelude.{◌≡◌, ◌∷◌, [], ◌++◌, ◌≤◌, true, length, sum_by, IfOk, OnOk};
+ghost use Rattle.std.specs.List.{AllByRecursion};
 ghost use Rattle.mq_calls.specs.Recovery.{listed};
 ghost use Rattle.mq_calls.specs.declared.state.SenderSide.{SenderSide};
+ghost use Rattle.mq_calls.specs.declared.state.ReceiverSide.{ReceiverSide as Receiver};
+ghost use Rattle.mq_sides.specs.Bonds.{has_seat};
 
 use mq_base::{Items, NoMemory};
 use mq_calls::{ReceiverSide, SenderSide};
-use mq_sides::{KeptReceiver, KeptSender, RowRoom};
+use mq_place::RowRoom;
+use mq_sides::{Bonds, KeptReceiver, KeptSender};
 use mq_sync::InDoubt;
 use std::alloc::Global;
 
@@ -102,6 +106,25 @@ fn all_listed(sides: &[SenderSide]) -> Result<usize, NoMemory>
         };
     }
     Ok(sum)
+}
+
+/// A place for each receiver among those that may be bound; none is bound.
+///
+/// # Errors
+///
+/// No memory.
+pub fn seats_for(alloc: Global, sides: &Items<ReceiverSide>) -> Result<Bonds, NoMemory>
+    ensures bound { IfOk result (λ bonds. bonds.bound ≡ []) }
+    ensures seats { IfOk result (λ bonds. AllByRecursion (λ (r : Receiver). has_seat r.channel bonds.seats ≡ true) sides.now) }
+{
+    let mut bonds = Bonds::new(alloc);
+    for side in sides.as_slice() {
+        match bonds.seat(&side.channel) {
+            Ok(()) => {}
+            Err(NoMemory) => return Err(NoMemory),
+        }
+    }
+    Ok(bonds)
 }
 
 /// Room for the rows of all units in doubt.

@@ -282,7 +282,7 @@ off_ready i e spare w =
     let rows = off_all_rows i e.senders in
     let a = w.log in
     let b = w.rows in
-    record { log = omega (arith, bytes, a); rows = omega (arith, rows, b); senders = off_sorted i e.senders w.senders; receivers = w.receivers }
+    record { log = omega (arith, bytes, a); rows = omega (arith, rows, b); senders = off_sorted i e.senders w.senders; receivers = w.receivers; seats = w.seats }
 
 tied_undoubted : (landed : List Arrival) (b : Bool) (i : Ident) (x : PartsValue) → TiedOnWay landed x → TiedOnWay landed (undoubted_at b i x)
 tied_undoubted landed false i x t = t

@@ -21,14 +21,14 @@ queues_seen d [] = refl
 queues_seen d (s ∷ ss) = ap (λ (qs : List Queue). queue_on s ∷ qs) (queues_seen d ss)
 
 -- a manager that is up, by what it has
-abbrev up_with : Given → Definitions → List Queue → List SenderSide → List ReceiverSide → ℕ → ℕ → PlainLog → Plain
-up_with g d qs senders receivers incarnation moment log = record {
+abbrev up_with : List (List ℕ) → Given → Definitions → List Queue → List SenderSide → List ReceiverSide → ℕ → ℕ → PlainLog → Plain
+up_with bound g d qs senders receivers incarnation moment log = record {
   given = g;
   running = Up;
   definitions = d;
   queues = qs;
   connections = [];
-  channels = record { senders = senders; receivers = receivers; seizures = []; batches = []; bound = [] };
+  channels = record { senders = senders; receivers = receivers; seizures = []; batches = []; bound = bound };
   moment = moment;
   numbers = record { incarnation = incarnation; idents = 0; connections = 0 };
   log = log;
@@ -42,9 +42,10 @@ pub begun_seen : (number : ℕ) (name : List ℕ) (moment : ℕ) (i : Image) (b 
 begun_seen number name moment i b log h =
     let next : b.incarnation + 1 ≡ i.incarnation + 0 + 1 = let e = h.incarnation in omega (arith, e) in
     let g = given_by number name log.max in
-    ap (λ (d : Definitions). up_with g d (queues_of b.queues.states) b.senders b.receivers (b.incarnation + 1) moment (log_seen log)) h.defs
-    ∙ ap (λ (ss : List QueueState). up_with g i.definitions (queues_of ss) b.senders b.receivers (b.incarnation + 1) moment (log_seen log)) h.queues
-    ∙ ap (λ (qs : List Queue). up_with g i.definitions qs b.senders b.receivers (b.incarnation + 1) moment (log_seen log)) (queues_seen i.definitions i.shelves)
-    ∙ ap (λ (s : List SenderSide). up_with g i.definitions (map queue_on i.shelves) s b.receivers (b.incarnation + 1) moment (log_seen log)) h.senders
-    ∙ ap (λ (r : List ReceiverSide). up_with g i.definitions (map queue_on i.shelves) i.senders r (b.incarnation + 1) moment (log_seen log)) h.receivers
-    ∙ ap (λ (n : ℕ). up_with g i.definitions (map queue_on i.shelves) i.senders i.receivers n moment (log_seen log)) next
+    ap (λ (ns : List (List ℕ)). up_with ns g b.defs.definitions (queues_of b.queues.states) b.senders b.receivers (b.incarnation + 1) moment (log_seen log)) h.bound
+    ∙ ap (λ (d : Definitions). up_with [] g d (queues_of b.queues.states) b.senders b.receivers (b.incarnation + 1) moment (log_seen log)) h.defs
+    ∙ ap (λ (ss : List QueueState). up_with [] g i.definitions (queues_of ss) b.senders b.receivers (b.incarnation + 1) moment (log_seen log)) h.queues
+    ∙ ap (λ (qs : List Queue). up_with [] g i.definitions qs b.senders b.receivers (b.incarnation + 1) moment (log_seen log)) (queues_seen i.definitions i.shelves)
+    ∙ ap (λ (s : List SenderSide). up_with [] g i.definitions (map queue_on i.shelves) s b.receivers (b.incarnation + 1) moment (log_seen log)) h.senders
+    ∙ ap (λ (r : List ReceiverSide). up_with [] g i.definitions (map queue_on i.shelves) i.senders r (b.incarnation + 1) moment (log_seen log)) h.receivers
+    ∙ ap (λ (n : ℕ). up_with [] g i.definitions (map queue_on i.shelves) i.senders i.receivers n moment (log_seen log)) next

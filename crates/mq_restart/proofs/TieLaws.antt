@@ -30,6 +30,7 @@ use Rattle.mq_law_manager.proofs.Lists.{ident_yes, ident_self}
 use Rattle.mq_law_manager.proofs.Named.{name_is}
 use Rattle.mq_law_image.proofs.Naming.{shelf_names, local_names, is_local_at, name_listed, local_found}
 use Rattle.mq_sides.specs.Places.{AreByName}
+use Rattle.mq_sides.specs.Bonds.{has_seat}
 use Rattle.mq_core.specs.Ties.{EndsReady, Tied, ends_need, state_lanes, local_lanes, pending_at, times_in_rows, times_in_queues, one_if}
 use Rattle.mq_rebuild.specs.declared.building.Built.{Built}
 use Rattle.mq_rebuild.specs.Rebuilt.{is_laned, state_on, IsBuilt}
@@ -240,7 +241,8 @@ none_pending name d (s ∷ ss) = by (bytes_eq name s.name) (none_pending name d 
 ends_ready : (i : Image) (b : Built) (log : LogState) → IsBuilt i b → IsImage i → ends_need (begun_ends b) ≤ log.spare → EndsReady (begun_ends b) log.spare
 ends_ready i b log h image aside = record {
   log = aside;
-  rows = subst (λ (ss : List SenderSide). sum_by (λ (s : SenderSide). length (listed s.hardened.in_doubt)) ss ≤ b.rows.room) (sym h.senders) h.rows;
+  rows = let room = h.rows in subst (λ (ss : List SenderSide). sum_by (λ (s : SenderSide). length (listed s.hardened.in_doubt)) ss ≤ b.rows.room + length b.rows.rows) (sym h.senders) (omega (arith, room));
+  seats = subst (λ (rs : List ReceiverSide). AllByRecursion (λ (r : ReceiverSide). has_seat r.channel b.bound.seats ≡ true) rs) (sym h.receivers) h.seats;
   senders = subst (λ (ss : List SenderSide). AreByName (λ (s : SenderSide). s.channel) ss) (sym h.senders) (pairs_chain (λ (s t : SenderSide). comes_before s.channel t.channel ≡ true) i.senders image.senders_sorted);
   receivers = subst (λ (rs : List ReceiverSide). AreByName (λ (r : ReceiverSide). r.channel) rs) (sym h.receivers) (pairs_chain (λ (r t : ReceiverSide). comes_before r.channel t.channel ≡ true) i.receivers image.receivers_sorted);
 }

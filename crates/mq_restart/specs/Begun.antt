@@ -48,7 +48,7 @@ IsUnread g start bodies NoMemory = Unit {0}
 
 -- what channel ends have of a manager that was built: what was hardened, and nothing that runs
 abbrev pub begun_ends : Built → ChannelEnds
-begun_ends b = record { senders = b.senders; receivers = b.receivers; seizures = []; batches = []; bound = []; rows = b.rows }
+begun_ends b = record { senders = b.senders; receivers = b.receivers; seizures = []; batches = []; bound = b.bound; rows = b.rows }
 
 -- the parts of a manager that was built and is up, and how it is seen
 abbrev pub begun_parts : ℕ → List ℕ → ℕ → Built → LogState → PartsValue

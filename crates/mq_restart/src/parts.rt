@@ -38,7 +38,7 @@ fn parts_of<D: Disk>(
             receivers: built.receivers,
             seizures: Items::new(alloc),
             batches: Items::new(alloc),
-            bound: Items::new(alloc),
+            bound: built.bound,
             rows: built.rows,
         },
         moment,

@@ -67,6 +67,7 @@ fn come_up<D: Disk>(parts: &mut Parts<D>, built: Built)
         queues,
         senders,
         receivers,
+        bound,
         rows,
         incarnation,
     } = built;
@@ -79,7 +80,7 @@ fn come_up<D: Disk>(parts: &mut Parts<D>, built: Built)
         receivers,
         seizures: Items::new(parts.alloc),
         batches: Items::new(parts.alloc),
-        bound: Items::new(parts.alloc),
+        bound,
         rows,
     };
     parts.incarnation = incarnation + 1;

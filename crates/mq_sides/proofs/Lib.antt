@@ -3,3 +3,4 @@ pub mod TakeLaws
 pub mod OrderLaws
 pub mod SumLaws
 pub mod KeptLaws
+pub mod BondLaws

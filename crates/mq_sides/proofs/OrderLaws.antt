@@ -20,7 +20,7 @@ is_less Greater e = absurd cc
 names_total : IsTotalOrder (slice_cmp nat_cmp)
 names_total = nat_list_cmp_total
 
-before_trans : (a b c : List ℕ) → comes_before a b ≡ true → comes_before b c ≡ true → comes_before a c ≡ true
+pub before_trans : (a b c : List ℕ) → comes_before a b ≡ true → comes_before b c ≡ true → comes_before a c ≡ true
 before_trans a b c x y = ap is_lt (names_total.trans a b c (is_less (slice_cmp nat_cmp a b) x) (is_less (slice_cmp nat_cmp b c) y))
 
 not_both : (o : Ordering) → is_eq o ≡ true → is_lt o ≡ true → ⊥
@@ -28,7 +28,7 @@ not_both Less e f = cc e
 not_both Equal e f = cc f
 not_both Greater e f = cc e
 
-before_apart : (a b : List ℕ) → comes_before a b ≡ true → bytes_eq a b ≡ false
+pub before_apart : (a b : List ℕ) → comes_before a b ≡ true → bytes_eq a b ≡ false
 before_apart a b e = by (bytes_eq a b) refl
   where
     by : (t : Bool) → bytes_eq a b ≡ t → t ≡ false
@@ -96,7 +96,7 @@ turned_less Greater e f = refl
 before_turned : (a b : List ℕ) → bytes_eq a b ≡ false → comes_before a b ≡ false → comes_before b a ≡ true
 before_turned a b e f = ap is_lt (names_total.antisymm b a) ∙ turned_less (slice_cmp nat_cmp a b) (is_eq-slice_cmp a b ∙ e) f
 
-name_is : (a b : List ℕ) → bytes_eq a b ≡ true → a ≡ b
+pub name_is : (a b : List ℕ) → bytes_eq a b ≡ true → a ≡ b
 name_is a b e = (bytes_eq-Decides a b).0 e
 
 set_mem : {A : Type 0} (name : A → List ℕ) (new x : A) (xs : List A) → Mem x (set_named name new xs) → (x ≡ new) ⊎ Mem x xs

@@ -57,6 +57,6 @@ parts_rested x = record x {
   mode = modes.Down None 0 None;
   queues = record x.queues { states = states_rested x };
   desk = record { live = []; last = x.desk.last };
-  ends = record x.ends { seizures = []; batches = []; bound = [] };
+  ends = record x.ends { seizures = []; batches = []; bound = record x.ends.bound { bound = [] } };
   log = record x.log { reserved = 0 };
 }

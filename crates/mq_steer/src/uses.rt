@@ -1,7 +1,5 @@
 //! What a manager says of the use of its objects.
 ghost use Rattle.std.specs.Prelude.{◌≡◌, ◌||◌, is_some, true};
-ghost use Rattle.std.specs.List.{list_any};
-ghost use Rattle.std.specs.Str.{bytes_eq};
 ghost use Rattle.mq_calls.specs.Words.{has_rows, stored, seizure_of, in_doubt_of, sender_in};
 ghost use Rattle.mq_spec_manager.specs.Commands.{uses_of};
 ghost use Rattle.mq_core.specs.Views.{plain_of};
@@ -24,12 +22,6 @@ fn is_seized(seizures: &[Seizure], channel: &ChName) -> bool
         }
     }
     false
-}
-
-fn is_bound(bound: &[ChName], channel: &ChName) -> bool
-    ensures { result ≡ list_any (bytes_eq channel.now) bound.now }
-{
-    bound.iter().any(|other| *channel == *other)
 }
 
 fn is_in_doubt(senders: &[KeptSender], channel: &ChName) -> bool
@@ -91,7 +83,7 @@ impl<'a, D: Disk> InUse for ObjectUse<'a, D> {
     fn channel_busy(&self, name: &ChName) -> bool {
         let core = self.core;
         is_seized(core.parts.ends.seizures.as_slice(), name)
-            || is_bound(core.parts.ends.bound.as_slice(), name)
+            || core.parts.ends.bound.is_bound(name)
             || is_in_doubt(core.parts.ends.senders.as_slice(), name)
     }
 

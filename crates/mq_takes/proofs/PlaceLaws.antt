@@ -22,7 +22,7 @@ use Rattle.mq_spec_node.specs.Terms.{Did, Message, Part, Plain, Reason, Refuse, 
 use Rattle.mq_spec_node.specs.Words.{Node, ReceiverEnd, close_parts, deed_of, is_receiver_defined, parts_of, place_deed, turned, with_end}
 use Rattle.mq_spec_node.specs.Node.ChannelEnd.{Receives}
 use Rattle.mq_core.specs.Values.{CoreValue, manager_of}
-use Rattle.mq_events.proofs.NumberLaws.{StepIsShort}
+use Rattle.mq_law_manager.proofs.ShortSteps.{StepIsShort}
 use Rattle.mq_events.specs.States.{NodeState, node_in}
 use Rattle.mq_events.specs.declared.outcome.Told.{Told}
 use Rattle.mq_events.proofs.CallLaws.{where_wider}

@@ -19,7 +19,6 @@ use mq_frame::Seen;
 use mq_manager::Manager;
 use mq_own::ReceiverEnd;
 use mq_receiver::{ReceiverDoes, ReceiverOut};
-use mq_sides::drop_side;
 use mq_turns::{Turn, hardened, has_run};
 use mq_wires::Sight;
 use std::alloc::Global;
@@ -29,8 +28,7 @@ fn unbind_in<D: Disk>(core: &mut Core<D>, channel: &ChName)
     ensures meets { words.MeetsOrWants (words.manager_of core.old) (words.set_bound channel.now false core.old.plain) (Ok tt) (words.manager_of core.new) }
     ensures told { words.WritesLog core.old (words.set_bound channel.now false core.old.plain) (Ok tt) core.new }
 {
-    core.begin_call();
-    drop_side(core.parts.alloc, &mut core.parts.ends.bound, channel);
+    mq_agents::unbind(core, channel);
 }
 
 /// A receiver isn't bound from now on. It takes no memory.

@@ -13,7 +13,7 @@ use Rattle.mq_spec_manager.specs.Agents.{expire, expired_rows, queue_of_sender}
 use Rattle.mq_spec_node.specs.Terms.{Plain, Step}
 use Rattle.mq_spec_node.specs.Words.{parts_of}
 use Rattle.mq_core.specs.Values.{CoreValue, manager_of}
-use Rattle.mq_events.proofs.NumberLaws.{IsShort, StepIsShort}
+use Rattle.mq_law_manager.proofs.ShortSteps.{IsShort, StepIsShort}
 use Rattle.mq_events.specs.declared.outcome.Told.{Told}
 use Rattle.mq_turns.specs.Turns.{IsAsWas, Made, MadeOr}
 use Rattle.mq_turns.proofs.PartLaws.{none_made, ran_made, stopped_made}

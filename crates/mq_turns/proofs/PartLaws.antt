@@ -12,7 +12,7 @@ use Rattle.mq_spec_node.specs.Terms.{Did, Plain, Part, Step, Refuse, Do, do_all,
 use Rattle.mq_spec_manager.specs.Agents.{leave}
 use Rattle.mq_spec_node.specs.Words.{parts_of}
 use Rattle.mq_core.specs.Values.{CoreValue, manager_of}
-use Rattle.mq_events.proofs.NumberLaws.{IsShort, StepIsShort}
+use Rattle.mq_law_manager.proofs.ShortSteps.{IsShort, StepIsShort}
 use Rattle.mq_events.proofs.CallLaws.{later, where_wider}
 use Rattle.mq_events.proofs.TurnLaws.{ran}
 use Rattle.mq_turns.specs.Turns.{IsAsWas, IsBehind, Made, has_run, left_parts}

@@ -31,7 +31,7 @@ use Rattle.mq_spec_node.specs.Node.ChannelEnd.{Sends}
 use Rattle.mq_core.specs.Values.{CoreValue, manager_of}
 use Rattle.mq_events.specs.declared.outcome.Told.{Told}
 use Rattle.mq_events.specs.States.{NodeState, node_in}
-use Rattle.mq_events.proofs.NumberLaws.{StepIsShort, tested_all}
+use Rattle.mq_law_manager.proofs.ShortSteps.{StepIsShort, tested_all}
 use Rattle.mq_turns.specs.declared.telling.Turn.{Turn}
 use Rattle.mq_turns.specs.declared.telling.Turn.TheVariants as turns
 use Rattle.mq_turns.specs.Turns.{IsAsWas, IsBehind, Made, delta_by, plain_by}

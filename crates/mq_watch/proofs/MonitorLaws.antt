@@ -20,7 +20,7 @@ use Rattle.mq_spec_node.specs.Words.{CanCome, IsReplayed, Monitor, Node, Own, be
 use Rattle.mq_law_counts.specs.Counts.{IsCountedCall}
 use Rattle.mq_events.specs.declared.outcome.Outcome.{Outcome}
 use Rattle.mq_events.specs.Outcomes.{Ends, EndsAs}
-use Rattle.mq_events.proofs.NumberLaws.{tested_all}
+use Rattle.mq_law_manager.proofs.ShortSteps.{tested_all}
 use Rattle.mq_events.specs.States.{NodeState, IsKept, entry_of, finished, node_in, value_of}
 use Rattle.mq_events.specs.Counts.{IsNode, KeepsCounts}
 use Rattle.mq_events.specs.Events.{Adds, MayAct, Stays}

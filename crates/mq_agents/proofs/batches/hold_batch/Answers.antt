@@ -36,7 +36,7 @@ invariant_of-core-2 g c =
     let e : ChannelEnds = record x.ends { batches = set_named (λ (k : Batch). k.channel) batch x.ends.batches } in
     let same = c.in-Ok-put_batch.ensures.ok ∙ ap (λ (is : List Ident). batch_held (record { channel = channel; unit = c.args.unit.now; queue = queue; idents = is }) c.as_slice-2.result.now x) listed
     ∙ ap (λ (is : List Ident). batch_held batch is x) c.as_slice-2.ensures in
-    subst Tied (sym same) (tied_rows f (λ q. refl) (λ i q. omega (arith, times_held i (Among queue ids) by q)) e x (λ w. record { log = w.log; rows = w.rows; senders = w.senders; receivers = w.receivers }) c.core.invariant)
+    subst Tied (sym same) (tied_rows f (λ q. refl) (λ i q. omega (arith, times_held i (Among queue ids) by q)) e x (λ w. record { log = w.log; rows = w.rows; senders = w.senders; receivers = w.receivers; seats = w.seats }) c.core.invariant)
 
 pub returns-clause-meets : goal.returns-clause-meets
 unfolding with_rows

@@ -12,8 +12,8 @@ use Rattle.mq_core.specs.declared.parts.StoppedWrite.TheVariants as writes
 use Rattle.mq_core.specs.Views.{PartsValue, frozen_of}
 use Rattle.mq_core.specs.Ties.{EndsReady, mode_is_up}
 use Rattle.mq_core.proofs.MeetLaws.{mode_up}
-use Rattle.mq_agents.specs.Written.{IsAside, is_live, live_need, with_receivers, note_record, noted_change}
-use Rattle.mq_agents.proofs.ReadyLaws.{closing_spare, live_found, old_open, old_receiver, old_told, receiver_closed}
+use Rattle.mq_agents.specs.Written.{IsAside, drawn, is_live, live_need, with_receivers, note_record, noted_change}
+use Rattle.mq_agents.proofs.ReadyLaws.{closing_spare, live_found, live_seat, old_open, old_receiver, old_told, receiver_closed}
 use Rattle.mq_agents.proofs.WriteLaws.{aside_bodies, aside_view, drawn_aside, hardened_tied, hardened_meets, hardening_ends, hardening_told, hardened_wrote, hardened_bodies, not_wanted, receiver_hardened, tied_after, wants_none}
 use Rattle.mq_core.specs.Values.{CoreValue, manager_of, behind_record}
 use Rattle.mq_agents.proofs.hardening.close.Goals as goal
@@ -53,7 +53,7 @@ write_receiver-requires-clause-ends g c =
     let live : is_live (receiver_in side.channel x.ends.receivers) ≡ true = ap (λ (n : List ℕ). is_live (receiver_in n x.ends.receivers)) named ∙ ap (λ (p : Plain). is_live (receiver_data c.args.channel.now p)) plain ∙ c.requires.live in
     let had = old_open side.channel x.ends w.receivers live in
     subst (λ (q : PartsValue). EndsReady (with_receivers (set_receiver side q.ends.receivers) q.ends) q.log.spare) (sym c.draw.ensures)
-    (receiver_closed side x.ends x.log.spare w (ap (λ (k : ReceiverSide). k.hardened.closed) is ∙ c.requires.closed) (omega (arith, had)))
+    (receiver_closed side x.ends x.log.spare w (live_seat side.channel x.ends x.log.spare w live) (ap (λ (k : ReceiverSide). k.hardened.closed) is ∙ c.requires.closed) (omega (arith, had)))
 
 pub invariant_of-core : goal.invariant_of-core
 invariant_of-core g c =

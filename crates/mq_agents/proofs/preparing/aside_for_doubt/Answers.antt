@@ -1,6 +1,6 @@
 use Rattle.std.proofs.Common.{◌≡◌, ℕ, ◌+◌, ◌∙◌, ap, arith, sym, subst}
 use Rattle.mq_calls.specs.Words.{set_sender}
-use Rattle.mq_sides.specs.Kept.{RowsKept}
+use Rattle.mq_place.specs.Rooms.{RowsKept}
 use Rattle.mq_core.specs.declared.parts.ChannelEnds.{ChannelEnds}
 use Rattle.mq_core.specs.Views.{PartsValue}
 use Rattle.mq_core.specs.Ties.{EndsReady}

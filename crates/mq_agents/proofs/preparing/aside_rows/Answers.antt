@@ -1,5 +1,5 @@
-use Rattle.std.proofs.Common.{ap, arith}
-use Rattle.mq_sides.specs.Kept.{RowsKept}
+use Rattle.std.proofs.Common.{◌≡◌, ℕ, ◌+◌, ◌≤◌, ◌∙◌, length, sym, ap, arith}
+use Rattle.mq_place.specs.Rooms.{RowsKept}
 use Rattle.mq_core.specs.declared.parts.ChannelEnds.{ChannelEnds}
 use Rattle.mq_core.specs.Views.{PartsValue}
 use Rattle.mq_agents.proofs.WriteLaws.{roomed_more}
@@ -14,8 +14,8 @@ returns-clause-more g c =
     let x : PartsValue = c.args.parts.now in
     let seen = c.parts.view_is in
     let new : RowsKept = c.set_aside.new.self in
-    let had = ap (λ (p : PartsValue). p.ends.rows.room) seen in
-    let room = ap (λ (k : RowsKept). k.room) c.in-Ok.ensures.ok in
+    let had = ap (λ (p : PartsValue). p.ends.rows.room + length p.ends.rows.rows) seen in
+    let room = ap (λ (k : RowsKept). k.room + length k.rows) c.in-Ok.ensures.ok in
     roomed_more x _ new x.log.room x.log.spare x.body (λ i. put_rows new (seen i)) (omega arith) (omega arith) (omega (arith, had, room)) (omega arith)
 
 pub returns-in-Err-clause-more : goal.returns-in-Err-clause-more
@@ -24,8 +24,8 @@ returns-in-Err-clause-more g c =
     let x : PartsValue = c.args.parts.now in
     let seen = c.parts.view_is in
     let new : RowsKept = c.set_aside.new.self in
-    let had = ap (λ (p : PartsValue). p.ends.rows.room) seen in
-    let room = ap (λ (k : RowsKept). k.room) c.in-Err.ensures.err in
+    let had = ap (λ (p : PartsValue). p.ends.rows.room + length p.ends.rows.rows) seen in
+    let room = ap (λ (k : RowsKept). k.room + length k.rows) c.in-Err.ensures.err in
     roomed_more x _ new x.log.room x.log.spare x.body (λ i. put_rows new (seen i)) (omega arith) (omega arith) (omega (arith, had, room)) (omega arith)
 
 with_rows : RowsKept → ChannelEnds → ChannelEnds
@@ -41,6 +41,6 @@ returns-in-Err-clause-ends g c = ap (λ (p : PartsValue). with_rows c.set_aside.
 
 pub returns-clause-room : goal.returns-clause-room
 returns-clause-room g c =
-    let had = ap (λ (p : PartsValue). p.ends.rows.room) c.parts.view_is in
-    let room = ap (λ (k : RowsKept). k.room) c.in-Ok.ensures.ok in
+    let had = ap (λ (p : PartsValue). p.ends.rows.room + length p.ends.rows.rows) c.parts.view_is in
+    let room = ap (λ (k : RowsKept). k.room + length k.rows) c.in-Ok.ensures.ok in
     omega (arith, had, room)

@@ -1,14 +1,18 @@
-use Rattle.std.proofs.Common.{◌≡◌, ℕ, ◌∙◌, ap, subst, refl, arith}
-use Rattle.std.specs.Prelude.{List, Ok, Err}
+use Rattle.std.proofs.Common.{◌≡◌, ℕ, ◌∙◌, ap, subst, refl, arith, inl, inr}
+use Rattle.std.specs.Prelude.{List, None, find, Ok, Err}
+use Rattle.std.specs.Str.{bytes_eq}
 use Rattle.mq_base.specs.Outside.{Rose}
 use Rattle.mq_log.specs.State.{LogState, Appended}
 use Rattle.mq_log.specs.Force.{Stops}
 use Rattle.mq_calls.specs.Words.{set_sender}
 use Rattle.mq_calls.specs.declared.state.SenderSide.{SenderSide}
+use Rattle.mq_place.specs.Rooms.{RowsKept}
+use Rattle.mq_sides.specs.Places.{AreByName, standing}
 use Rattle.mq_core.specs.declared.parts.ChannelEnds.{ChannelEnds}
 use Rattle.mq_core.specs.Views.{PartsValue}
 use Rattle.mq_core.specs.declared.parts.StoppedWrite.TheVariants as writes
 use Rattle.mq_core.specs.Forced.{downed}
+use Rattle.mq_agents.specs.Settling.{none_named, with_named}
 use Rattle.mq_agents.proofs.settling.write_settled.Goals as goal
 
 roomier : LogState → ℕ → LogState
@@ -26,9 +30,9 @@ append_forced-requires-clause-live g c =
 pub append_forced-requires-clause-room : goal.append_forced-requires-clause-room
 append_forced-requires-clause-room g c = omega (arith, c.in-Ok.ensures.ok)
 
-pub returns-in-Err-append_forced : goal.returns-in-Err-append_forced
+pub returns-in-Err-append_forced-clause-written : goal.returns-in-Err-append_forced-clause-written
 unfolding roomier put_in
-returns-in-Err-append_forced g c =
+returns-in-Err-append_forced-clause-written g c =
     let x : PartsValue = c.args.parts.now in
     let seen = c.parts.view_is in
     let new : LogState = c.append_forced.new.self in
@@ -37,8 +41,11 @@ returns-in-Err-append_forced g c =
     let a = c.in-Err-append_forced.ensures in
     let stop = c.in-Err-append_forced.stop in
     let sides = c.undo_side.ensures ∙ c.in-Ok-swap_side.ensures.undo.same ∙ ap (λ (p : PartsValue). p.ends.senders) seen in
+    let undone : PartsValue = record x { log = new } in
+    let named : c.into_items.result ≡ x.ends.rows.rows = c.into_items.ensures ∙ ap (λ (k : RowsKept). k.rows) (c.take_rows.ensures.rows ∙ ap (λ (p : PartsValue). p.ends.rows) seen) in
+    let taken : c.take_rows.new.parts ≡ with_named none_named undone = c.take_rows.ensures.same ∙ ap (with_named none_named) (λ i. record (seen i) { ends = put_in (sides i) (seen i).ends; log = new }) in
     record {
-      at = record x { log = new };
+      at = with_named none_named undone;
       is = record {
         same = refl;
         log = subst (λ (l : LogState). Appended l c.args.bytes.now (Err stop) new) log a.appended;
@@ -49,12 +56,12 @@ returns-in-Err-append_forced g c =
         later = omega (arith, failed, a.later);
         disk = λ d. subst (λ (l : LogState). Rose l.faults new.faults) log (a.disk d);
       };
-      down = c.go_down.ensures ∙ ap (λ (p : PartsValue). downed (writes.Settled c.args.channel.now c.args.unit.now c.args.commit c.args.operator c.args.rows) p) (λ i. record (seen i) { ends = put_in (sides i) (seen i).ends; log = new });
+      down = c.go_down.ensures ∙ (λ i. downed (writes.Settled c.args.channel.now c.args.unit.now c.args.commit c.args.operator (named i)) (taken i));
     }
 
-pub returns : goal.returns
+pub returns-clause-written : goal.returns-clause-written
 unfolding roomier put_in
-returns g c =
+returns-clause-written g c =
     let x : PartsValue = c.args.parts.now in
     let seen = c.parts.view_is in
     let new : LogState = c.append_forced.new.self in
@@ -64,7 +71,7 @@ returns g c =
     let failed = ap (λ (l : LogState). l.faults) log in
     let a = c.in-Ok-append_forced.ensures in
     let sides = c.in-Ok-swap_side.ensures.ok ∙ ap (λ (p : PartsValue). set_sender c.args.side p.ends.senders) seen in (
-      refl,
+      c.in-Ok-swap_side.ensures.before ∙ ap (λ (p : PartsValue). standing (λ (s : SenderSide). s.channel) c.args.side.channel p.ends.senders) seen,
       record {
         same = λ i. record (seen i) { ends = put_in (sides i) (seen i).ends; log = new };
         log = subst (λ (l : LogState). Appended l c.args.bytes.now (Ok tt) new) log a.appended;
@@ -76,3 +83,14 @@ returns g c =
         disk = λ d. subst (λ (l : LogState). Rose l.faults new.faults) log (a.disk d);
       },
     )
+
+pub returns-in-Err-clause-lacks : goal.returns-in-Err-clause-lacks
+returns-in-Err-clause-lacks g c =
+    let had = ap (λ (p : PartsValue). p.log.room) c.parts.view_is in
+    let kept = ap (λ (p : PartsValue). p.log.reserved) c.parts.view_is in
+    let short = c.in-Err.ensures.memory in
+    inl (omega (arith, had, kept, short))
+
+pub returns-in-Err-swap_side-clause-lacks : goal.returns-in-Err-swap_side-clause-lacks
+returns-in-Err-swap_side-clause-lacks g c =
+    inr (subst (λ (p : PartsValue). AreByName (λ (s : SenderSide). s.channel) p.ends.senders → find (λ (s : SenderSide). bytes_eq c.args.side.channel s.channel) p.ends.senders ≡ None) c.parts.view_is c.in-Err-swap_side.ensures.lacks)

@@ -16,7 +16,7 @@ invariant_of-core g c =
     let x : PartsValue = c.core.inside.parts in
     let channel = c.args.channel.now in
     let f = released_in (HeldBy (holders.Batch channel)) false in
-    subst Tied (sym c.free_batch.ensures) (tied_rows f (λ q. refl) (λ i q. omega (arith, times_freed i (HeldBy (holders.Batch channel)) q)) (without_one channel x.ends) x (λ w. record { log = w.log; rows = w.rows; senders = w.senders; receivers = w.receivers }) c.core.invariant)
+    subst Tied (sym c.free_batch.ensures) (tied_rows f (λ q. refl) (λ i q. omega (arith, times_freed i (HeldBy (holders.Batch channel)) q)) (without_one channel x.ends) x (λ w. record { log = w.log; rows = w.rows; senders = w.senders; receivers = w.receivers; seats = w.seats }) c.core.invariant)
 
 pub returns-clause-plain : goal.returns-clause-plain
 unfolding with_rows

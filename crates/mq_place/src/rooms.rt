@@ -1,6 +1,6 @@
 //! Rows that are named, in room that was taken before.
-ghost use Rattle.std.specs.Prelude.{◌≡◌, ◌+◌, ◌<◌, [], IfOk, OnOk, OnErr};
-ghost use Rattle.mq_sides.specs.Kept.{cleared_rows, named_row};
+ghost use Rattle.std.specs.Prelude.{◌≡◌, ◌+◌, ◌-◌, ◌++◌, ◌∷◌, ◌<◌, ◌≤◌, [], IfOk, OnOk, OnErr};
+ghost use Rattle.mq_place.specs.Rooms.{RoomStays, cleared_rows, one_named};
 
 use mq_base::{Items, NoMemory};
 use mq_calls::Remove;
@@ -17,7 +17,7 @@ pub struct RowRoom {
 
 impl Model for RowRoom {
     ghost use Rattle.std.specs.Prelude.{◌+◌, ◌≤◌, vec_len, vec_capacity};
-    ghost use Rattle.mq_sides.specs.Kept.{RowsKept};
+    ghost use Rattle.mq_place.specs.Rooms.{RowsKept};
 
     ghost Value = { RowsKept };
 
@@ -74,10 +74,41 @@ impl RowRoom {
     /// Names one row more. It takes no memory.
     pub fn push(&mut self, row: Remove)
         requires { 0 < self.old.room }
-        ensures { self.new ≡ named_row row self.old }
+        ensures { self.new ≡ one_named row self.old }
     {
         self.room -= 1;
         self.rows.extend_from_slice(&[row]).unwrap();
+    }
+
+    /// Names one row more. Only where there is no room does it take memory.
+    ///
+    /// # Errors
+    ///
+    /// No memory; nothing has changed.
+    pub fn add(&mut self, row: Remove) -> Result<(), NoMemory>
+        ensures rows { OnOk result (self.new.rows ≡ self.old.rows ++ row ∷ []) }
+        ensures err { OnErr result (self.new ≡ self.old) }
+        ensures room { RoomStays self.old self.new }
+        ensures memory { OnErr result (self.old.room ≡ 0) }
+    {
+        if self.room > 0 {
+            self.push(row);
+            return Ok(());
+        }
+        match self.set_aside(1) {
+            Ok(()) => {}
+            Err(NoMemory) => return Err(NoMemory),
+        }
+        self.push(row);
+        Ok(())
+    }
+
+    /// So much of the room is kept no longer. It takes no memory.
+    pub fn give_back(&mut self, less: usize)
+        requires { less ≤ self.old.room }
+        ensures { self.new ≡ record self.old { room = self.old.room - less } }
+    {
+        self.room -= less;
     }
 
     /// The rows.
