@@ -1,4 +1,4 @@
-use Rattle.std.proofs.Common.{◌≡◌, ◌∙◌, ap}
+use Rattle.std.proofs.Common.{◌≡◌, ◌∙◌, false, ap}
 use Rattle.std.specs.Prelude.{[], ◌∷◌, Ok}
 use Rattle.mq_calls.specs.Words.{Plain, is_up}
 use Rattle.mq_calls.specs.State.Change.{SetBound}
