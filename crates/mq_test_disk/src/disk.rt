@@ -10,7 +10,6 @@ use std::process::Abort;
 use std::test::*;
 
 /// A call of a disk, or a question about it.
-#[derive(Clone, Copy, Debug)]
 enum Step {
     Write(u64, &'static [u8]),
     Cut(u64),
@@ -23,7 +22,7 @@ enum Step {
 }
 
 /// What comes of a step.
-#[derive(Clone, Copy, Debug, PartialEq, Eq)]
+#[derive(PartialEq)]
 enum Told {
     /// The call was made, and the answer to the question is yes.
     Done,
@@ -69,6 +68,10 @@ fn cut(disk: &mut MemDisk, len: u64) -> Told {
     }
 }
 
+fn holds(disk: &MemDisk, bytes: &[u8]) -> bool {
+    disk.bytes() == bytes
+}
+
 fn take_step(disk: &mut MemDisk, step: &Step) -> Told {
     match step {
         Step::Write(place, bytes) => write(disk, *place, bytes),
@@ -76,7 +79,7 @@ fn take_step(disk: &mut MemDisk, step: &Step) -> Told {
         Step::Sync => done(disk.sync()),
         Step::Restart => done(disk.restart()),
         Step::Len(wanted) => told_len(disk.len(), *wanted),
-        Step::Holds(bytes) => asked(disk.bytes() == *bytes),
+        Step::Holds(bytes) => asked(holds(disk, bytes)),
     }
 }
 
@@ -206,7 +209,6 @@ fn the_listed_calls_and_a_write_past_the_room_fail(rt: HostRuntime) -> Result<()
 }
 
 /// A call of a disk behind a cut, or a question about it.
-#[derive(Clone, Copy, Debug)]
 enum CutStep {
     Arm(u32),
     /// A write at its begin.
@@ -312,7 +314,6 @@ fn a_cut_stops_the_armed_call_and_those_after_it(rt: HostRuntime) -> Result<(), 
 }
 
 /// A call of a disk behind a fuse, or a question about it.
-#[derive(Clone, Copy, Debug)]
 enum FuseStep {
     /// Is this its length?
     Len(u64),
@@ -327,7 +328,7 @@ enum FuseStep {
 }
 
 fn told_first(disk: &mut Fuse<MemDisk>, wanted: u8) -> Told {
-    if disk.inner().bytes().is_empty() {
+    if disk.inner().bytes().len() == 0 {
         return Told::No;
     }
     let mut first = [0u8; 1];
@@ -363,8 +364,8 @@ const BLOWN: [(FuseStep, Told); 7] = [
 fn a_fuse_blows_and_a_restart_mends_it(rt: HostRuntime) -> Result<(), Fail> {
     let disk = MemDisk::new(rt.alloc(), b"abc", 3, Image::Kept, Vec::new(rt.alloc()))?;
     let mut disk = Fuse::new(disk, 2);
-    for (step, wanted) in &BLOWN {
-        assert_eq!(rt; take_fuse_step(&mut disk, step), *wanted, "{step:?}");
+    for (place, (step, wanted)) in BLOWN.iter().enumerate() {
+        assert!(rt; take_fuse_step(&mut disk, step) == *wanted, "step {place}");
     }
     Ok(())
 }
@@ -428,7 +429,7 @@ fn a_shelf_gives_each_disk_once(rt: HostRuntime) -> Result<(), Fail> {
 }
 
 /// Leaves `axyz` on an empty disk.
-fn write_twice(disk: &mut FileDisk) -> Result<(), Failed> {
+fn write_twice(disk: &mut impl Disk) -> Result<(), Failed> {
     disk.cut(0)?;
     disk.write_at(0, b"abc")?;
     disk.write_at(1, b"xyz")?;
@@ -459,7 +460,7 @@ fn a_file_keeps_what_was_written(rt: HostRuntime) -> Result<(), Fail> {
 }
 
 /// Leaves `ab` on a disk.
-fn write_and_cut(disk: &mut FileDisk) -> Result<(), Failed> {
+fn write_and_cut(disk: &mut impl Disk) -> Result<(), Failed> {
     disk.cut(0)?;
     disk.write_at(0, b"abcd")?;
     disk.cut(2)?;

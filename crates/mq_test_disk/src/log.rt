@@ -7,7 +7,7 @@ use std::alloc::Global;
 use std::test::*;
 
 /// What comes of a step.
-#[derive(Clone, Copy, Debug, PartialEq, Eq)]
+#[derive(PartialEq)]
 enum Told {
     /// The call was made, and the answer to the question is yes.
     Done,
@@ -110,7 +110,6 @@ fn give_back(log: &mut Log<MemDisk>, bytes: u64) -> Told {
 }
 
 /// A call of a log, or a question about it.
-#[derive(Clone, Copy, Debug)]
 enum Step {
     Append(&'static [u8]),
     Restart,
@@ -215,7 +214,8 @@ fn a_cut_body_stands_only_where_its_gate_was_opened(rt: HostRuntime) -> Result<(
         for k in 1..6u32 {
             let kept = k == 5 || k == 4 && image == Image::Kept;
             let told = if k < 5 { Told::Cut } else { Told::Done };
-            assert_eq!(rt; cut_at(rt.alloc(), image, k)?, (told, kept), "{image:?} {k}");
+            let (answer, stands) = cut_at(rt.alloc(), image, k)?;
+            assert!(rt; answer == told && stands == kept, "{image:?} {k}");
         }
     }
     Ok(())
