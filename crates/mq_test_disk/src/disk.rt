@@ -22,7 +22,7 @@ enum Step {
 }
 
 /// What comes of a step.
-#[derive(PartialEq)]
+#[derive(Clone, Copy, PartialEq)]
 enum Told {
     /// The call was made, and the answer to the question is yes.
     Done,

@@ -7,7 +7,7 @@ use std::alloc::Global;
 use std::test::*;
 
 /// What comes of a step.
-#[derive(PartialEq)]
+#[derive(Clone, Copy, PartialEq)]
 enum Told {
     /// The call was made, and the answer to the question is yes.
     Done,

@@ -9,6 +9,7 @@ const ATTRIBUTES: &[u8] =
     b"') DEFPRTY(0) DEFPSIST(NO) GET(ENABLED) INITQ('') MAXDEPTH(5000) MAXMSGL(4194304) MSGDLVSQ(PRIORITY) PROCESS('') PUT(ENABLED) TRIGDATA('') TRIGDPTH(1) NOTRIGGER TRIGMPRI(0) TRIGTYPE(FIRST) USAGE(NORMAL)";
 
 /// A piece of a body.
+#[derive(Clone, Copy)]
 enum Field<'a> {
     Byte(u8),
     Short(u32),
@@ -82,6 +83,7 @@ fn message(
 }
 
 /// A body of the log.
+#[derive(Clone, Copy)]
 pub enum Body {
     /// Started, of M1 with this number, and its incarnation.
     Started(u8, u64),
