@@ -192,7 +192,10 @@ fn each_field_is_looked_up_where_it_stands(rt: HostRuntime) -> Result<(), Fail> 
         assert!(rt; found == Some(from), "rule {from}");
     }
     for from in [13, 4294967295] {
-        assert!(rt; decide(&table, &descriptor(), &header(), from).is_none(), "from {from}");
+        assert!(rt;
+            decide(&table, &descriptor(), &header(), from).is_none(),
+            "from {from}"
+        );
     }
     Ok(())
 }

@@ -191,7 +191,11 @@ fn is_definition(command: &Command) -> bool {
             define.replace
                 && matches!(&define.subject, Subject::Local(name) if name.text() == b"Q1".as_slice())
                 && define.settings.len() == 2
-                && define.settings.as_slice().iter().all(|setting| is_setting(setting))
+                && define
+                    .settings
+                    .as_slice()
+                    .iter()
+                    .all(|setting| is_setting(setting))
         }
         _ => false,
     }

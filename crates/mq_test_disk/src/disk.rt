@@ -406,12 +406,7 @@ const TAKES: [(&[u8], Side, Option<&[u8]>); 5] = [
 ];
 
 /// Whether a take comes out so.
-fn is_taken(
-    shelf: &mut MemShelf<MemDisk>,
-    name: &[u8],
-    side: Side,
-    wanted: Option<&[u8]>,
-) -> bool {
+fn is_taken(shelf: &mut MemShelf<MemDisk>, name: &[u8], side: Side, wanted: Option<&[u8]>) -> bool {
     match (shelf.take(&name_of(name), side), wanted) {
         (Ok(disk), Some(bytes)) => disk.bytes() == bytes,
         (Err(TakeFault::Failed), None) => true,

@@ -257,8 +257,13 @@ const KEPT: &[(Step, Told)] = &[
 ];
 
 /// The call of the disk that fails, and steps of an empty log.
-const FAILING: [(u64, &[(Step, Told)]); 5] =
-    [(5, LOST), (6, LOST), (7, LOST), (8, OPENED), (9, KEPT)];
+const FAILING: [(u64, &[(Step, Told)]); 5] = [
+    (5, LOST),
+    (6, LOST),
+    (7, LOST),
+    (8, OPENED),
+    (9, KEPT),
+];
 
 #[test]
 fn a_disk_that_fails_stops_the_call(rt: HostRuntime) -> Result<(), Fail> {

@@ -74,7 +74,10 @@ fn is_longer(alloc: Global, sample: &Sample, byte: u8) -> Result<bool, Fail> {
 fn a_byte_behind_a_record_makes_it_none(rt: HostRuntime) -> Result<(), Fail> {
     for (kind, sample) in each_kind(rt.alloc())?.iter().enumerate() {
         for byte in [0, 1, b' ', 255] {
-            assert!(rt; !is_longer(rt.alloc(), sample, byte)?, "kind {kind} from 0, {byte}");
+            assert!(rt;
+                !is_longer(rt.alloc(), sample, byte)?,
+                "kind {kind} from 0, {byte}"
+            );
         }
     }
     Ok(())

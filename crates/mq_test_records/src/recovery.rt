@@ -100,7 +100,12 @@ fn a_record_with_a_spoiled_byte_is_refused_at_its_gate(rt: HostRuntime) -> Resul
 type Row = (&'static [Body], Start, Option<usize>);
 
 /// Whether a log of these bodies is at fault just there.
-fn is_at_fault(alloc: Global, bodies: &[Body], start: Start, at: Option<usize>) -> Result<bool, Fail> {
+fn is_at_fault(
+    alloc: Global,
+    bodies: &[Body],
+    start: Start,
+    at: Option<usize>,
+) -> Result<bool, Fail> {
     let fault = fault_in(alloc, &log_of(alloc, bodies)?, start)?;
     match at {
         None => Ok(fault.is_none()),
@@ -130,9 +135,7 @@ const BEGINS: [Row; 4] = [
 ];
 
 #[test]
-fn a_log_begins_with_a_start_of_its_manager_and_has_no_others(
-    rt: HostRuntime,
-) -> Result<(), Fail> {
+fn a_log_begins_with_a_start_of_its_manager_and_has_no_others(rt: HostRuntime) -> Result<(), Fail> {
     are_at_fault(&rt, rt.alloc(), &BEGINS)
 }
 
@@ -166,8 +169,10 @@ fn is_bounded(alloc: Global, body: Body, first: bool, later: bool) -> Result<boo
     let bodies = [Body::Started(1, 1), body];
     let at_first = if first { None } else { Some(1) };
     let at_later = if later { None } else { Some(1) };
-    Ok(is_at_fault(alloc, &bodies, Start::First, at_first)?
-        && is_at_fault(alloc, &bodies, Start::Later, at_later)?)
+    Ok(
+        is_at_fault(alloc, &bodies, Start::First, at_first)?
+            && is_at_fault(alloc, &bodies, Start::Later, at_later)?,
+    )
 }
 
 #[test]
@@ -248,7 +253,10 @@ fn is_last_at_fault(
 #[test]
 fn no_message_with_an_ident_that_was_not_given_is_placed(rt: HostRuntime) -> Result<(), Fail> {
     for (row, (bodies, good)) in PLACED.iter().enumerate() {
-        assert!(rt; is_last_at_fault(rt.alloc(), &FRONT, bodies, *good)?, "row {row}");
+        assert!(rt;
+            is_last_at_fault(rt.alloc(), &FRONT, bodies, *good)?,
+            "row {row}"
+        );
     }
     Ok(())
 }
@@ -259,9 +267,15 @@ const NAMES: [&[u8]; 5] = [b"M2", b"M", b"M1.", b"m1", b""];
 fn a_start_with_another_name_is_refused(rt: HostRuntime) -> Result<(), Fail> {
     for called in &NAMES {
         let first = [Body::StartedAs(called, 1)];
-        assert!(rt; is_last_at_fault(rt.alloc(), &[], &first, false)?, "{called:?}");
+        assert!(rt;
+            is_last_at_fault(rt.alloc(), &[], &first, false)?,
+            "{called:?}"
+        );
         let second = [Body::Started(1, 1), Body::StartedAs(called, 2)];
-        assert!(rt; is_last_at_fault(rt.alloc(), &[], &second, false)?, "{called:?}");
+        assert!(rt;
+            is_last_at_fault(rt.alloc(), &[], &second, false)?,
+            "{called:?}"
+        );
     }
     Ok(())
 }
@@ -282,20 +296,17 @@ fn with_number(kind: usize, number: u64) -> Body {
 const UNBOUND: [Body; 3] = [Body::Started(1, 1), Body::Defined(b'1'), Body::Session(1)];
 
 /// Whether a body with this number is refused just where it isn't good, and by a first start alone.
-fn is_bounded_at_first(
-    alloc: Global,
-    kind: usize,
-    number: u64,
-    good: bool,
-) -> Result<bool, Fail> {
+fn is_bounded_at_first(alloc: Global, kind: usize, number: u64, good: bool) -> Result<bool, Fail> {
     let mut log = log_of(alloc, &UNBOUND)?;
     if kind > 1 {
         log.put(alloc, &Body::Bound(1))?;
     }
     let wanted = if good { None } else { Some(log.end()) };
     log.put(alloc, &with_number(kind, number))?;
-    Ok(fault_in(alloc, &log, Start::First)? == wanted
-        && fault_in(alloc, &log, Start::Later)?.is_none())
+    Ok(
+        fault_in(alloc, &log, Start::First)? == wanted
+            && fault_in(alloc, &log, Start::Later)?.is_none(),
+    )
 }
 
 /// Numbers, and whether they are good at a first start.

@@ -36,10 +36,18 @@ fn is_written(alloc: Global, kind: usize) -> Result<bool, Fail> {
     match kind {
         1 => are(alloc, 1, started_bytes(1, &m1, 4).as_slice()),
         4 => are(alloc, 4, session_bytes(&channel, &m2, 5).as_slice()),
-        6 => are(alloc, 6, resolved_bytes(&channel, UNIT, true, false).as_slice()),
+        6 => are(
+            alloc,
+            6,
+            resolved_bytes(&channel, UNIT, true, false).as_slice(),
+        ),
         7 => are(alloc, 7, bound_bytes(&channel, &m1, 5, 7).as_slice()),
         8 => are(alloc, 8, closed_bytes(&channel, 5).as_slice()),
-        10 => are(alloc, 10, seq_set_bytes(&channel, End::Receiver, 7).as_slice()),
+        10 => are(
+            alloc,
+            10,
+            seq_set_bytes(&channel, End::Receiver, 7).as_slice(),
+        ),
         _ => Ok(false),
     }
 }
@@ -58,7 +66,11 @@ fn is_begun(alloc: Global, kind: usize) -> Result<bool, Fail> {
     let (dlq, q1, m2) = (QName::of(b"DLQ")?, QName::of(b"Q1")?, QName::of(b"M2")?);
     match kind {
         2 => begin(alloc, 2, objects_front(Operation::Delete, 20).as_slice()),
-        5 => begin(alloc, 5, prepared_front(&channel, UNIT, 7, &m2, 2).as_slice()),
+        5 => begin(
+            alloc,
+            5,
+            prepared_front(&channel, UNIT, 7, &m2, 2).as_slice(),
+        ),
         9 => begin(alloc, 9, received_front(&channel, UNIT, 7, 1).as_slice()),
         11 => begin(alloc, 11, moved_front(&dlq, &IDENT, &q1).as_slice()),
         _ => Ok(false),

@@ -72,10 +72,7 @@ const WRITES: [Writes; 5] = [
     Writes {
         failing: 9,
         room: 7,
-        pieces: &[
-            (b"HELLO", Ok(())),
-            (b"YOU", Err(WriteFault { written: 0 })),
-        ],
+        pieces: &[(b"HELLO", Ok(())), (b"YOU", Err(WriteFault { written: 0 }))],
         held: b"HELLO",
     },
 ];
@@ -202,7 +199,10 @@ const EDITS: [(Edit, &[u8]); 8] = [
 fn a_list_is_edited_at_its_places(rt: HostRuntime) -> Result<(), Fail> {
     let mut items = Items::from_slice(rt.alloc(), &[1u8, 2, 3])?;
     for (row, (edit, values)) in EDITS.iter().enumerate() {
-        assert!(rt; change(&mut items, edit)? && are(&items, values), "edit {row}");
+        assert!(rt;
+            change(&mut items, edit)? && are(&items, values),
+            "edit {row}"
+        );
     }
     Ok(())
 }

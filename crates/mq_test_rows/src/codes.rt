@@ -62,7 +62,10 @@ fn numbers_and_names_are_those_of_the_table(rt: HostRuntime) -> Result<(), Fail>
         let reason = Reason::of(*number).ok_or("no reason")?;
         let is_named = reason.name().as_bytes() == *name;
         let is_found = Reason::of_name(name) == Some(reason);
-        assert!(rt; reason.number() == *number && is_named && is_found, "{number}");
+        assert!(rt;
+            reason.number() == *number && is_named && is_found,
+            "{number}"
+        );
     }
     Ok(())
 }
