@@ -7,7 +7,7 @@ use std::alloc::{AllocError, Global};
 use std::test::*;
 
 /// What a whole read of 10,000 bytes answers whose call of that number fails.
-fn read_failing(alloc: Global, failing: u64, max: usize) -> Result<Result<usize, ReadStop>, Fail> {
+fn read_failing(alloc: Global, failing: u64, max: u64) -> Result<Result<usize, ReadStop>, Fail> {
     let bytes = vec![in alloc; 7u8; 10000]?;
     let mut source = MemSource::new(bytes, vec![in alloc; failing; 1]?);
     Ok(match read_all(alloc, &mut source, max) {
@@ -17,7 +17,7 @@ fn read_failing(alloc: Global, failing: u64, max: usize) -> Result<Result<usize,
 }
 
 /// The call that fails, the largest length, and what is answered.
-const READS: [(u64, usize, Result<usize, ReadStop>); 7] = [
+const READS: [(u64, u64, Result<usize, ReadStop>); 7] = [
     (0, 10000, Err(ReadStop::ReadFault)),
     (1, 10000, Err(ReadStop::ReadFault)),
     (2, 10000, Err(ReadStop::ReadFault)),
