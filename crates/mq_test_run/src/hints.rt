@@ -36,12 +36,12 @@ ENDSTEPS
 fn with_line(alloc: Global, old: &str, new: &str) -> Result<String, AllocError> {
     let mut text = String::new(alloc);
     for line in TEXT.lines() {
-        let line = if line.as_bytes() == old.as_bytes() {
-            new
+        if line.as_bytes() == old.as_bytes() {
+            text.push_str(new)?;
         } else {
-            line
-        };
-        write!(text, "{line}\n")?;
+            text.push_str(line)?;
+        }
+        text.push_str("\n")?;
     }
     Ok(text)
 }
