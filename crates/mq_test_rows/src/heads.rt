@@ -67,12 +67,25 @@ fn fault_of(head: Head, bytes: &[u8]) -> Option<HeadFault> {
     }
 }
 
+fn are(written: &[u8], bytes: &[u8]) -> bool {
+    written == bytes
+}
+
 /// Whether bytes are read, and what is read is written as the same bytes.
 fn is_read_back(head: Head, bytes: &[u8]) -> bool {
     match head {
-        Head::Transmission => xqh_of(bytes).is_ok_and(|h| xqh_to_bytes(&h).as_slice() == bytes),
-        Head::DeadLetter => dlh_of(bytes).is_ok_and(|h| dlh_to_bytes(&h).as_slice() == bytes),
-        Head::Trigger => tm_of(bytes).is_ok_and(|h| tm_to_bytes(&h).as_slice() == bytes),
+        Head::Transmission => match xqh_of(bytes) {
+            Ok(header) => are(&xqh_to_bytes(&header), bytes),
+            Err(_) => false,
+        },
+        Head::DeadLetter => match dlh_of(bytes) {
+            Ok(header) => are(&dlh_to_bytes(&header), bytes),
+            Err(_) => false,
+        },
+        Head::Trigger => match tm_of(bytes) {
+            Ok(header) => are(&tm_to_bytes(&header), bytes),
+            Err(_) => false,
+        },
     }
 }
 

@@ -115,9 +115,16 @@ fn backouts(queue: &PlainQueue, number: u64) -> i32 {
     }
 }
 
+fn is_at(numbers: &[u64], place: usize, number: u64) -> bool {
+    match numbers.get(place) {
+        Some(there) => *there == number,
+        None => false,
+    }
+}
+
 fn are(queue: &PlainQueue, numbers: &[u64]) -> bool {
     for (place, row) in queue.rows().iter().enumerate() {
-        if numbers.get(place) != Some(&row.message.ident.number) {
+        if !is_at(numbers, place, row.message.ident.number) {
             return false;
         }
     }
