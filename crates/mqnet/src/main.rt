@@ -13,6 +13,8 @@ use std::{env, io};
 use top::mqnet;
 
 #[cfg(test)]
+mod calling;
+#[cfg(test)]
 mod channels;
 #[cfg(test)]
 mod phases;
