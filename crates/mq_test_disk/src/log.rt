@@ -1,6 +1,6 @@
 //! mq_log: starts, forced appends under cuts and faults, reservations.
 
-use mq_base::{NoMemory, QName};
+use mq_base::QName;
 use mq_disk::{Cutter, Disk, FileShelf, Image, MemDisk, Shelf, Side, Stop};
 use mq_log::{Bodies, Found, Log, LogFull, StartFault, next_body};
 use std::alloc::Global;
@@ -67,27 +67,31 @@ fn holds(mut bodies: Bodies<'_>, wanted: &[&[u8]]) -> bool {
 }
 
 /// Appends a body in room that is taken before.
-fn append<D: Disk>(log: &mut Log<D>, body: &[u8]) -> Result<Told, NoMemory> {
+fn append<D: Disk>(log: &mut Log<D>, body: &[u8]) -> Told {
     if body.len() > 100 {
-        return Ok(Told::No);
+        return Told::No;
     }
-    log.room(body.len() as u64 + 5)?;
+    let Ok(()) = log.room(body.len() as u64 + 5) else {
+        return Told::No;
+    };
     if !log.is_live() {
-        return Ok(Told::No);
+        return Told::No;
     }
-    Ok(forced(log.append_forced(body)))
+    forced(log.append_forced(body))
 }
 
 /// Appends a body of two parts in room that is taken before.
-fn append_parts(log: &mut Log<MemDisk>, head: &[u8], adds: &[u8]) -> Result<Told, NoMemory> {
+fn append_parts(log: &mut Log<MemDisk>, head: &[u8], adds: &[u8]) -> Told {
     if head.len() > 100 || adds.len() > 100 {
-        return Ok(Told::No);
+        return Told::No;
     }
-    log.room(head.len() as u64 + adds.len() as u64 + 5)?;
+    let Ok(()) = log.room(head.len() as u64 + adds.len() as u64 + 5) else {
+        return Told::No;
+    };
     if !log.is_live() {
-        return Ok(Told::No);
+        return Told::No;
     }
-    Ok(forced(log.append_parts(head, adds, b"")))
+    forced(log.append_parts(head, adds, b""))
 }
 
 fn reserve(log: &mut Log<MemDisk>, bytes: u64) -> Told {
@@ -124,33 +128,27 @@ enum Step {
     Holds(&'static [&'static [u8]]),
 }
 
-fn take_step(alloc: Global, log: &mut Log<MemDisk>, step: &Step) -> Result<Told, NoMemory> {
+fn take_step(alloc: Global, log: &mut Log<MemDisk>, step: &Step) -> Told {
     match step {
         Step::Append(body) => append(log, body),
-        Step::Restart => Ok(restarted(log.restart(alloc))),
-        Step::Reserve(bytes) => Ok(reserve(log, *bytes)),
-        Step::GiveBack(bytes) => Ok(give_back(log, *bytes)),
-        Step::Fits(bytes) => Ok(asked(log.fits(*bytes))),
-        Step::Numbers(len, reserved) => {
-            Ok(asked(log.len() == *len && log.reserved() == *reserved))
-        }
-        Step::IsLive => Ok(asked(log.is_live())),
-        Step::Holds(bodies) => Ok(asked(holds(log.bodies(), bodies))),
+        Step::Restart => restarted(log.restart(alloc)),
+        Step::Reserve(bytes) => reserve(log, *bytes),
+        Step::GiveBack(bytes) => give_back(log, *bytes),
+        Step::Fits(bytes) => asked(log.fits(*bytes)),
+        Step::Numbers(len, reserved) => asked(log.len() == *len && log.reserved() == *reserved),
+        Step::IsLive => asked(log.is_live()),
+        Step::Holds(bodies) => asked(holds(log.bodies(), bodies)),
     }
 }
 
 /// The first step, from 0, of which something else comes.
-fn first_wrong(
-    alloc: Global,
-    log: &mut Log<MemDisk>,
-    steps: &[(Step, Told)],
-) -> Result<Option<usize>, NoMemory> {
+fn first_wrong(alloc: Global, log: &mut Log<MemDisk>, steps: &[(Step, Told)]) -> Option<usize> {
     for (place, (step, wanted)) in steps.iter().enumerate() {
-        if take_step(alloc, log, step)? != *wanted {
-            return Ok(Some(place));
+        if take_step(alloc, log, step) != *wanted {
+            return Some(place);
         }
     }
-    Ok(None)
+    None
 }
 
 /// Bytes of a disk, and the bodies that a start reads from them.
@@ -188,24 +186,33 @@ fn a_start_tells_the_place_of_a_bad_gate(rt: HostRuntime) {
     }
 }
 
-/// Appends `first` and then `the second`, where a cut is armed for that one's call k, and restarts. What comes of the
-/// second, and whether its body stands.
-fn cut_at(alloc: Global, image: Image, k: u32) -> Result<(Told, bool), Fail> {
-    let mut log = started(alloc, b"", image, Vec::new(alloc))?;
-    if append(&mut log, b"first")? != Told::Done {
-        return Err(Fail::from("not appended"));
+/// Appends `first` and then `the second`, where a cut is armed for that one's call k. What comes of the second.
+fn append_both(log: &mut Log<MemDisk>, k: u32) -> Told {
+    if append(log, b"first") != Told::Done {
+        return Told::No;
     }
     log.arm(k);
-    let told = append_parts(&mut log, b"the", b" second")?;
+    let told = append_parts(log, b"the", b" second");
     log.arm(0);
-    log.restart(alloc)?;
+    told
+}
+
+/// Whether the second's body stands behind the first's. None where other bodies stand.
+fn second_stands(log: &Log<MemDisk>) -> Option<bool> {
     if holds(log.bodies(), &[b"first"]) {
-        return Ok((told, false));
+        return Some(false);
     }
     if holds(log.bodies(), &[b"first", b"the second"]) {
-        return Ok((told, true));
+        return Some(true);
     }
-    Err(Fail::from("other bodies"))
+    None
+}
+
+/// Whether that comes of the second, and its body stands so after a restart.
+fn is_cut(alloc: Global, log: &mut Log<MemDisk>, k: u32, wanted: Told, stands: bool) -> bool {
+    append_both(log, k) == wanted
+        && restarted(log.restart(alloc)) == Told::Done
+        && second_stands(log) == Some(stands)
 }
 
 #[test]
@@ -214,8 +221,11 @@ fn a_cut_body_stands_only_where_its_gate_was_opened(rt: HostRuntime) -> Result<(
         for k in 1..6u32 {
             let kept = k == 5 || k == 4 && image == Image::Kept;
             let told = if k < 5 { Told::Cut } else { Told::Done };
-            let (answer, stands) = cut_at(rt.alloc(), image, k)?;
-            assert!(rt; answer == told && stands == kept, "{image:?} {k}");
+            let mut log = started(rt.alloc(), b"", image, Vec::new(rt.alloc()))?;
+            assert!(rt;
+                is_cut(rt.alloc(), &mut log, k, told, kept),
+                "{image:?} {k}"
+            );
         }
     }
     Ok(())
@@ -270,7 +280,7 @@ fn a_disk_that_fails_stops_the_call(rt: HostRuntime) -> Result<(), Fail> {
     for (call, steps) in &FAILING {
         let failing = vec![in rt.alloc(); *call]?;
         let mut log = started(rt.alloc(), b"", Image::Kept, failing)?;
-        assert_eq!(rt; first_wrong(rt.alloc(), &mut log, steps)?, None, "{call}");
+        assert_eq!(rt; first_wrong(rt.alloc(), &mut log, steps), None, "{call}");
     }
     Ok(())
 }
@@ -291,34 +301,37 @@ const RESERVATIONS: &[(Step, Told)] = &[
 #[test]
 fn a_reservation_is_full_where_it_passes_the_largest_length(rt: HostRuntime) -> Result<(), Fail> {
     let mut log = started(rt.alloc(), b"", Image::Kept, Vec::new(rt.alloc()))?;
-    assert_eq!(rt; first_wrong(rt.alloc(), &mut log, RESERVATIONS)?, None);
+    assert_eq!(rt; first_wrong(rt.alloc(), &mut log, RESERVATIONS), None);
     Ok(())
 }
 
-/// Starts the log of the file, appends `body` and restarts. Whether it has these bodies then and before.
-fn goes_on(
-    alloc: Global,
-    shelf: &mut FileShelf<'_>,
-    name: &QName,
-    wanted: &[&[u8]],
-) -> Result<bool, Fail> {
-    let disk = Cutter::new(shelf.take(name, Side::A)?);
-    let Ok(mut log) = Log::start(alloc, disk, 1000) else {
-        return Err(Fail::from("not started"));
-    };
-    if append(&mut log, b"body")? != Told::Done || !holds(log.bodies(), wanted) {
-        return Ok(false);
-    }
-    log.restart(alloc)?;
-    Ok(holds(log.bodies(), wanted))
+/// Appends `body` to a log and restarts it. Whether it has these bodies then and before.
+fn goes_on<D: Disk>(alloc: Global, log: &mut Log<D>, wanted: &[&[u8]]) -> bool {
+    append(log, b"body") == Told::Done
+        && holds(log.bodies(), wanted)
+        && restarted(log.restart(alloc)) == Told::Done
+        && holds(log.bodies(), wanted)
 }
+
+/// The same of the log that a disk has.
+fn starts_and_goes_on<D: Disk>(alloc: Global, disk: D, wanted: &[&[u8]]) -> bool {
+    match Log::start(alloc, Cutter::new(disk), 1000) {
+        Ok(mut log) => goes_on(alloc, &mut log, wanted),
+        Err(_) => false,
+    }
+}
+
+/// What the log of a file has after each of two rounds.
+const ROUNDS: [&[&[u8]]; 2] = [&[b"body"], &[b"body", b"body"]];
 
 #[test]
 fn a_file_keeps_the_bodies(rt: HostRuntime) -> Result<(), Fail> {
     let mut shelf = FileShelf::new(&rt);
     let name = QName::of(b"KEPT")?;
-    assert!(rt; goes_on(rt.alloc(), &mut shelf, &name, &[b"body"])?);
-    assert!(rt; goes_on(rt.alloc(), &mut shelf, &name, &[b"body", b"body"])?);
+    for wanted in &ROUNDS {
+        let disk = shelf.take(&name, Side::A)?;
+        assert!(rt; starts_and_goes_on(rt.alloc(), disk, wanted));
+    }
     std::fs::remove_file(&rt, "KEPT.a.qlog")?;
     Ok(())
 }
