@@ -101,139 +101,101 @@ fn is_like(alloc: Global, pattern: &[u8], text: &[u8]) -> Result<bool, AllocErro
     Ok(decide(&table, &descriptor(), &header, 0).is_some())
 }
 
-/// A pattern, a text, and whether they are alike.
-const PATTERNS: [(&[u8], &[u8], bool); 17] = [
-    (&[b'*'; 48], &[b'a'; 48], true),
-    (b"", b"", true),
-    (b"", b"A", false),
-    (b"A", b"A", true),
-    (b"A", b"AB", false),
-    (b"AB", b"A", false),
-    (b"?", b"A", true),
-    (b"?", b"", false),
-    (b"A?C", b"ABC", true),
-    (b"*", b"", true),
-    (b"*", b"ABC", true),
-    (b"A*", b"BA", false),
-    (b"*A*B", b"xAyAzB", true),
-    (b"*A*B", b"xAyAzBc", false),
-    (b"a", b"A", false),
-    (b"A ", b"A", false),
-    (b"*?*?", b"A", false),
-];
-
 #[test]
 fn a_star_is_any_text_and_a_question_mark_any_byte(rt: HostRuntime) -> Result<(), Fail> {
-    for (at, (pattern, text, alike)) in PATTERNS.iter().enumerate() {
+    let rows: [(&[u8], &[u8], bool); 17] = [
+        (&[b'*'; 48], &[b'a'; 48], true),
+        (b"", b"", true),
+        (b"", b"A", false),
+        (b"A", b"A", true),
+        (b"A", b"AB", false),
+        (b"AB", b"A", false),
+        (b"?", b"A", true),
+        (b"?", b"", false),
+        (b"A?C", b"ABC", true),
+        (b"*", b"", true),
+        (b"*", b"ABC", true),
+        (b"A*", b"BA", false),
+        (b"*A*B", b"xAyAzB", true),
+        (b"*A*B", b"xAyAzBc", false),
+        (b"a", b"A", false),
+        (b"A ", b"A", false),
+        (b"*?*?", b"A", false),
+    ];
+    for (at, (pattern, text, alike)) in rows.iter().enumerate() {
         assert_eq!(rt; is_like(rt.alloc(), pattern, text)?, *alike, "row {at}");
     }
     Ok(())
 }
 
-/// Fields of texts, and what stands there.
-const TEXTS: [(TextField, &[u8]); 8] = [
-    (TextField::IdentityData, b""),
-    (TextField::ApplicationName, b"app"),
-    (TextField::DestQueue, b"NOQ"),
-    (TextField::DestQueueManager, b"PARIS"),
-    (TextField::Format, b"MQSTR"),
-    (TextField::ReplyQueue, b"BACK"),
-    (
-        TextField::ReplyQueueManager,
-        b"????????????????????????????????????????????????",
-    ),
-    (TextField::UserIdentifier, b"user"),
-];
-
-/// Fields of numbers, and what stands there.
-const NUMBERS: [(NumberField, i32); 5] = [
-    (NumberField::ApplicationType, 6),
-    (NumberField::Feedback, 0),
-    (NumberField::MessageType, 8),
-    (NumberField::Persistence, 1),
-    (NumberField::Reason, 2085),
-];
-
-fn push_text(
-    alloc: Global,
-    rules: &mut Items<Rule>,
-    field: TextField,
-    pattern: &[u8],
-) -> Result<(), AllocError> {
-    rules.push(rule(alloc, text(alloc, field, pattern)?)?)
-}
-
-fn push_number(
-    alloc: Global,
-    rules: &mut Items<Rule>,
-    field: NumberField,
-    value: i32,
-) -> Result<(), AllocError> {
-    rules.push(rule(alloc, Condition::Number(field, value))?)
-}
-
-/// A table with a rule for each field.
-fn each_field(alloc: Global) -> Result<Table, AllocError> {
-    let mut rules = Items::new(alloc);
-    for (field, pattern) in &TEXTS {
-        push_text(alloc, &mut rules, *field, pattern)?;
+#[test]
+fn each_field_is_looked_up_where_it_stands(rt: HostRuntime) -> Result<(), Fail> {
+    let texts: [(TextField, &[u8]); 8] = [
+        (TextField::IdentityData, b""),
+        (TextField::ApplicationName, b"app"),
+        (TextField::DestQueue, b"NOQ"),
+        (TextField::DestQueueManager, b"PARIS"),
+        (TextField::Format, b"MQSTR"),
+        (TextField::ReplyQueue, b"BACK"),
+        (
+            TextField::ReplyQueueManager,
+            b"????????????????????????????????????????????????",
+        ),
+        (TextField::UserIdentifier, b"user"),
+    ];
+    let mut rules = Items::new(rt.alloc());
+    for (field, pattern) in texts {
+        rules.push(rule(rt.alloc(), text(rt.alloc(), field, pattern)?)?)?;
     }
-    for (field, value) in &NUMBERS {
-        push_number(alloc, &mut rules, *field, *value)?;
+    let numbers = [
+        (NumberField::ApplicationType, 6),
+        (NumberField::Feedback, 0),
+        (NumberField::MessageType, 8),
+        (NumberField::Persistence, 1),
+        (NumberField::Reason, 2085),
+    ];
+    for (field, value) in numbers {
+        rules.push(rule(rt.alloc(), Condition::Number(field, value))?)?;
     }
-    Ok(of_rules(rules))
+    let table = of_rules(rules);
+    for from in 0..13u32 {
+        assert!(rt;
+            decide(&table, &descriptor(), &header(), from) == Some(from),
+            "rule {from}"
+        );
+    }
+    assert!(rt; decide(&table, &descriptor(), &header(), 13).is_none());
+    assert!(rt; decide(&table, &descriptor(), &header(), 4294967295).is_none());
+    Ok(())
 }
 
 #[test]
-fn each_field_is_looked_up_where_it_stands(rt: HostRuntime) -> Result<(), Fail> {
-    let table = each_field(rt.alloc())?;
-    for from in 0..13u32 {
-        let found = decide(&table, &descriptor(), &header(), from);
-        assert!(rt; found == Some(from), "rule {from}");
-    }
-    for from in [13, 4294967295] {
+fn the_first_rule_that_matches_is_chosen(rt: HostRuntime) -> Result<(), Fail> {
+    let mut rules = Items::new(rt.alloc());
+    rules.push(rule(rt.alloc(), Condition::Number(NumberField::Reason, 2053))?)?;
+    rules.push(rule(rt.alloc(), text(rt.alloc(), TextField::Format, b"MQ*")?)?)?;
+    rules.push(rule(rt.alloc(), text(rt.alloc(), TextField::DestQueue, b"N?Q")?)?)?;
+    let table = of_rules(rules);
+    for (from, first) in [(0, Some(1)), (1, Some(1)), (2, Some(2)), (3, None)] {
         assert!(rt;
-            decide(&table, &descriptor(), &header(), from).is_none(),
+            decide(&table, &descriptor(), &header(), from) == first,
             "from {from}"
         );
     }
     Ok(())
 }
 
-/// A table of three rules, of which the first doesn't match.
-fn three(alloc: Global) -> Result<Table, AllocError> {
-    let mut rules = Items::new(alloc);
-    push_number(alloc, &mut rules, NumberField::Reason, 2053)?;
-    push_text(alloc, &mut rules, TextField::Format, b"MQ*")?;
-    push_text(alloc, &mut rules, TextField::DestQueue, b"N?Q")?;
-    Ok(of_rules(rules))
-}
-
-/// From which rule is looked, and which is chosen.
-const CHOSEN: [(u32, Option<u32>); 4] = [(0, Some(1)), (1, Some(1)), (2, Some(2)), (3, None)];
-
 #[test]
-fn the_first_rule_that_matches_is_chosen(rt: HostRuntime) -> Result<(), Fail> {
-    let table = three(rt.alloc())?;
-    for (from, first) in &CHOSEN {
-        let found = decide(&table, &descriptor(), &header(), *from);
-        assert!(rt; found == *first, "from {from}");
+fn targets_name_fields_of_the_two_headers(rt: HostRuntime) -> Result<(), Fail> {
+    let rows: [(Target, &[u8]); 4] = [
+        (Target::DestQueue, b"NOQ"),
+        (Target::DestQueueManager, b"PARIS"),
+        (Target::ReplyQueue, b"BACK"),
+        (Target::ReplyQueueManager, b""),
+    ];
+    for (target, name) in rows {
+        let found = target.name(&descriptor(), &header());
+        assert!(rt; found.text() == name);
     }
     Ok(())
-}
-
-/// Targets, and the names that they have.
-const TARGETS: [(Target, &[u8]); 4] = [
-    (Target::DestQueue, b"NOQ"),
-    (Target::DestQueueManager, b"PARIS"),
-    (Target::ReplyQueue, b"BACK"),
-    (Target::ReplyQueueManager, b""),
-];
-
-#[test]
-fn targets_name_fields_of_the_two_headers(rt: HostRuntime) {
-    for (row, (target, name)) in TARGETS.iter().enumerate() {
-        let found = target.name(&descriptor(), &header());
-        assert!(rt; found.text() == *name, "row {row}");
-    }
 }

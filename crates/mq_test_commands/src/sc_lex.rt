@@ -32,50 +32,52 @@ fn shown(alloc: Global, lines: &Lines) -> Result<String, AllocError> {
     Ok(text)
 }
 
-/// Texts, and their commands.
-const CASES: [(&str, &str); 9] = [
-    (
-        "def ql(q1) descr('It''s') maxdepth(10)\nalter qlocal(Q1) +\n  put(disabled)\n",
-        "1 DEF QL ( Q1 ) DESCR ( \"It's\" ) MAXDEPTH ( 10 )\n2 ALTER QLOCAL ( Q1 ) PUT ( DISABLED )\n",
-    ),
-    (
-        "* a comment\n\ndis ql( Q1 ),put ;; stop chl(c)",
-        "3 DIS QL ( Q1 ) PUT\n3 STOP CHL ( C )\n",
-    ),
-    ("ab+\n  cd\n", "1 ABCD\n"),
-    ("ab-\n  cd\n", "1 AB CD\n"),
-    ("'ab-\n  cd'\n", "1 \"ab  cd\"\n"),
-    ("'a +\n* between\n  b;c'", "1 \"a b;c\"\n"),
-    ("a + \n\nb", "1 A\n3 B\n"),
-    ("a 'b'c", "1 A \"b\" C\n"),
-    ("", ""),
-];
-
 #[test]
 fn texts_have_commands(rt: HostRuntime) -> Result<(), Fail> {
-    for (text, expected) in &CASES {
+    let cases = [
+        (
+            "def ql(q1) descr('It''s') maxdepth(10)\nalter qlocal(Q1) +\n  put(disabled)\n",
+            "1 DEF QL ( Q1 ) DESCR ( \"It's\" ) MAXDEPTH ( 10 )\n2 ALTER QLOCAL ( Q1 ) PUT ( DISABLED )\n",
+        ),
+        (
+            "* a comment\n\ndis ql( Q1 ),put ;; stop chl(c)",
+            "3 DIS QL ( Q1 ) PUT\n3 STOP CHL ( C )\n",
+        ),
+        ("ab+\n  cd\n", "1 ABCD\n"),
+        ("ab-\n  cd\n", "1 AB CD\n"),
+        ("'ab-\n  cd'\n", "1 \"ab  cd\"\n"),
+        ("'a +\n* between\n  b;c'", "1 \"a b;c\"\n"),
+        ("a + \n\nb", "1 A\n3 B\n"),
+        ("a 'b'c", "1 A \"b\" C\n"),
+        ("", ""),
+    ];
+    for (text, expected) in cases {
         let lines = commands(rt.alloc(), text.as_bytes())?;
         let found = shown(rt.alloc(), &lines)?;
-        assert!(rt; found.as_str() == *expected, "{text}");
+        assert_eq!(rt; found.as_str(), expected);
     }
     Ok(())
 }
 
-/// Texts that are no commands, and why.
-const FAULTS: [(&str, LexFault); 6] = [
-    ("DEFINE QLOCAL('A", LexFault::OpenQuote(1)),
-    ("A\nB +\n'C +\nD", LexFault::OpenQuote(3)),
-    ("A 'B\nC'\nD +", LexFault::OpenQuote(1)),
-    ("DEFINE QLOCAL(A) +", LexFault::OpenContinuation),
-    ("A -\n", LexFault::OpenContinuation),
-    ("A +\n* only a comment\n", LexFault::OpenContinuation),
-];
-
 #[test]
 fn the_first_fault_is_told(rt: HostRuntime) {
-    for (text, wanted) in &FAULTS {
-        let fault = commands(rt.alloc(), text.as_bytes()).err();
-        assert!(rt; fault == Some(*wanted), "{text}");
+    let quotes = [
+        ("DEFINE QLOCAL('A", 1),
+        ("A\nB +\n'C +\nD", 3),
+        ("A 'B\nC'\nD +", 1),
+    ];
+    for (text, line) in quotes {
+        assert!(rt;
+            matches!(commands(rt.alloc(), text.as_bytes()), Err(LexFault::OpenQuote(at)) if at == line)
+        );
+    }
+    for text in ["DEFINE QLOCAL(A) +", "A -\n", "A +\n* only a comment\n"] {
+        assert!(rt;
+            matches!(
+                commands(rt.alloc(), text.as_bytes()),
+                Err(LexFault::OpenContinuation)
+            )
+        );
     }
 }
 

@@ -193,31 +193,18 @@ fn change<Q: Queue>(queue: &mut Q, dice: &mut Dice, kind: u64) -> u64
     }
 }
 
-/// What is found behind a place.
-fn found<Q: Queue>(queue: &Q, want: &Want, after: Option<Place>, least: u8) -> [u64; 6] {
-    let there = match after {
-        None => 0,
-        Some(place) => told_of(queue.at(place)),
-    };
-    [
-        told_first(queue.first(want, after)),
-        told_of(queue.first_row(want, after)),
-        told_of(queue.next_row(after)),
-        there,
-        queue.len(),
-        queue.free(least),
-    ]
-}
-
 /// What is found.
 fn look<Q: Queue>(queue: &Q, dice: &mut Dice, told: &mut Vec<u64>) -> Result<(), NoMemory> {
     let want = some_want(dice);
     let after = some_place(dice);
-    let answers = found(queue, &want, after, dice.throw() as u8);
-    match told.extend_from_slice(&answers) {
-        Ok(()) => Ok(()),
-        Err(_) => Err(NoMemory),
+    note(told, told_first(queue.first(&want, after)))?;
+    note(told, told_of(queue.first_row(&want, after)))?;
+    note(told, told_of(queue.next_row(after)))?;
+    if let Some(place) = after {
+        note(told, told_of(queue.at(place)))?;
     }
+    note(told, queue.len())?;
+    note(told, queue.free(dice.throw() as u8))
 }
 
 /// One random step.

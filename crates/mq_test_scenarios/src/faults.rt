@@ -198,7 +198,8 @@ fn first_wrong<'a>(
     rows: &[(&'a str, &'a str)],
 ) -> Result<Option<&'a str>, AllocError> {
     for (inner, want) in rows {
-        let text = format!(in alloc; "{HEAD}{inner}")?;
+        let mut text = String::from_str(alloc, HEAD)?;
+        text.push_str(inner)?;
         if told(alloc, text.as_bytes())?.as_str() != *want {
             return Ok(Some(inner));
         }
@@ -245,9 +246,13 @@ fn a_line_behind_forty_thousand_is_too_many(rt: HostRuntime) -> Result<(), Fail>
 
 /// A text with so many of the parts.
 fn with_parts(alloc: Global, row: &Counted, count: u32) -> Result<String, AllocError> {
-    let mut text = format!(in alloc; "{HEAD}{}", row.front)?;
+    let mut text = String::from_str(alloc, HEAD)?;
+    text.push_str(row.front)?;
     for n in 0..count {
-        write!(text, "{}{n}{}", row.before, row.behind)?;
+        let number = format!(in alloc; "{n}")?;
+        text.push_str(row.before)?;
+        text.push_str(number.as_str())?;
+        text.push_str(row.behind)?;
     }
     text.push_str(row.back)?;
     Ok(text)
@@ -284,20 +289,17 @@ fn a_number_of_a_line_has_its_limit(rt: HostRuntime) -> Result<(), Fail> {
     Ok(())
 }
 
-/// Sixteen bodies of the greatest length, and one byte.
-fn seventeen_bodies(alloc: Global) -> Result<String, AllocError> {
-    let mut text = format!(in alloc; "{HEAD}SCRIPT A LONDON\n")?;
+#[test]
+fn all_bodies_together_have_a_limit(rt: HostRuntime) -> Result<(), Fail> {
+    let mut text = String::from_str(rt.alloc(), HEAD)?;
+    text.push_str("SCRIPT A LONDON\n")?;
     for _ in 0..16 {
         text.push_str("MQPUT H FILL(4194304,'A')\n")?;
     }
     text.push_str("MQPUT H TEXT('')\nMQPUT H FILL(1,'A')\n")?;
-    Ok(text)
-}
-
-#[test]
-fn all_bodies_together_have_a_limit(rt: HostRuntime) -> Result<(), Fail> {
-    let text = seventeen_bodies(rt.alloc())?;
-    let told = told(rt.alloc(), text.as_bytes())?;
-    assert_eq!(rt; told.as_str(), "line 22: Limit Bodies");
+    assert_eq!(rt;
+        told(rt.alloc(), text.as_bytes())?.as_str(),
+        "line 22: Limit Bodies"
+    );
     Ok(())
 }

@@ -1,6 +1,6 @@
 //! A text with every part and every kind of step.
 
-use mq_history::{CableLine, ManagerLine, ScriptLine, Section, Step};
+use mq_history::{ScriptLine, Step};
 use mq_scn_text::read_scenario;
 use std::test::*;
 
@@ -44,56 +44,29 @@ RESTART LONDON
 CLOCK 0
 ENDSTEPS";
 
-fn are_managers(managers: &[ManagerLine]) -> bool {
-    match managers {
-        [london, paris] => {
-            london.name.text() == b"LONDON".as_slice()
-                && london.log_max == 1_048_576
-                && paris.log_max == 268_435_456
-        }
-        _ => false,
-    }
-}
-
-fn is_cable(cables: &[CableLine]) -> bool {
-    match cables {
-        [cable] => {
-            cable.sender == 0
-                && cable.receiver == 1
-                && cable.out.len() == 2
-                && cable.back.len() == 1
-        }
-        _ => false,
-    }
-}
-
-fn is_section(sections: &[Section]) -> bool {
-    match sections {
-        [section] => section.label.text() == b"D1".as_slice() && section.commands.len() == 2,
-        _ => false,
-    }
-}
-
 #[test]
 fn every_part_of_a_scenario_is_read(rt: HostRuntime) -> Result<(), Fail> {
     let scenario = read_scenario(rt.alloc(), TEXT.as_bytes())?;
     assert_eq!(rt; scenario.moment, Some(1_700_000_000_000));
-    assert!(rt; are_managers(scenario.managers.as_slice()));
-    assert!(rt; is_cable(scenario.cables.as_slice()));
-    assert!(rt; is_section(scenario.sections.as_slice()));
-    assert_eq!(rt; (scenario.rules.len(), scenario.monitors.len()), (1, 1));
+    let [london, paris] = scenario.managers.as_slice() else {
+        return Err(Fail::new("two managers"));
+    };
+    assert_eq!(rt; london.name.text(), b"LONDON".as_slice());
+    assert_eq!(rt; london.log_max, 1_048_576);
+    assert_eq!(rt; paris.log_max, 268_435_456);
+    let [cable] = scenario.cables.as_slice() else {
+        return Err(Fail::new("one cable"));
+    };
+    assert_eq!(rt; (cable.sender, cable.receiver), (0, 1));
+    assert_eq!(rt; (cable.out.len(), cable.back.len()), (2, 1));
+    let [section] = scenario.sections.as_slice() else {
+        return Err(Fail::new("one section"));
+    };
+    assert_eq!(rt; section.label.text(), b"D1".as_slice());
+    assert_eq!(rt; section.commands.len(), 2);
+    assert_eq!(rt; scenario.rules.len(), 1);
+    assert_eq!(rt; scenario.monitors.len(), 1);
     Ok(())
-}
-
-fn are_lines(lines: &[ScriptLine]) -> bool {
-    matches!(
-        lines,
-        [
-            ScriptLine::Mqconn(_),
-            ScriptLine::Mqput1 { .. },
-            ScriptLine::Mqdisc
-        ]
-    )
 }
 
 #[test]
@@ -102,7 +75,17 @@ fn lines_of_scripts_are_read(rt: HostRuntime) -> Result<(), Fail> {
     let [a, b] = scenario.scripts.as_slice() else {
         return Err(Fail::new("two scripts"));
     };
-    assert!(rt; b.lines.is_empty() && are_lines(a.lines.as_slice()));
+    assert_eq!(rt; b.lines.len(), 0);
+    assert!(rt;
+        matches!(
+            a.lines.as_slice(),
+            [
+                ScriptLine::Mqconn(_),
+                ScriptLine::Mqput1 { .. },
+                ScriptLine::Mqdisc
+            ]
+        )
+    );
     Ok(())
 }
 

@@ -1,6 +1,6 @@
 //! The worked turns of a channel's two ends, over disks in memory.
 
-use crate::calling::mqnet;
+use crate::top::mqnet;
 use mq_base::{MemSink, MemSource, QName};
 use mq_disk::{Image, MemDisk, MemShelf, Side};
 use mq_gate::OpenGate;

@@ -13,8 +13,6 @@ use std::{env, io};
 use top::mqnet;
 
 #[cfg(test)]
-mod calling;
-#[cfg(test)]
 mod channels;
 #[cfg(test)]
 mod phases;

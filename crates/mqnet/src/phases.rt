@@ -1,7 +1,7 @@
 //! PHASE in threads: calls of two scripts overlap, two managers force at the same time, ends of channels take turns, and what two
 //! scripts put comes in the order of each. What a gate or a disk waits for comes within 10,000,000 yields of its thread.
 
-use crate::calling::mqnet;
+use crate::top::mqnet;
 use mq_base::{MemSink, MemSource, QName};
 use mq_disk::{Image, MemDisk, MemShelf, Side};
 use mq_gate::{Gate, Meet, MeetShelf, OpenGate, Point, Tally};

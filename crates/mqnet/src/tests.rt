@@ -1,6 +1,6 @@
 //! The top call: each status by its cause, and what is told of it.
 
-use crate::calling::mqnet;
+use crate::top::mqnet;
 use mq_base::{MemSink, MemSource, QName};
 use mq_disk::{Image, MemDisk, MemShelf, Side};
 use mq_gate::OpenGate;
