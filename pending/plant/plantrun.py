@@ -1,0 +1,86 @@
+#!/usr/bin/env python3
+"""plantrun CRATE [--only W] [--max N] [--minutes N] [--all], at the top of a clone: rt plant over libraries that are built.
+As /work/h/tools/plantq.py, but the crate itself is not proved anew: its library stands (built of exactly this text), so its functions are proved, and their
+names come from the logs of the builds. Each check waits for its turn as tools/q does, and waiting takes nothing from --minutes."""
+import sys, os, importlib.machinery, importlib.util, subprocess, re, time, glob, atexit
+sys.path.insert(0, '/work/h/tools')
+from qlib import Keys
+KIT='/opt/rattle'; LIBS='/work/h/libs'
+top=os.getcwd(); crate=sys.argv[1]; rest=sys.argv[2:]
+k=Keys(top); bs=k.below(crate)
+built={b:f'{LIBS}/{b}/{k.key(b)}' for b in bs}
+missing=[b for b in [*bs] if not os.path.isdir(built[b])]
+if missing: sys.exit('not built: '+' '.join(missing))
+ofkit=list(dict.fromkeys(['std',*[d for d in k.deps[crate] if d not in k.deps]]))
+def load(name,path):
+    l=importlib.machinery.SourceFileLoader(name,path); s=importlib.util.spec_from_loader(name,l); m=importlib.util.module_from_spec(s); l.exec_module(m); return m
+sys.dont_write_bytecode=True
+os.environ['TMPDIR']=f'{top}/.q/tmp'; os.makedirs(f'{top}/.q/tmp',exist_ok=True)
+P=load('rtplant','/opt/rattle/bin/rt-plant')
+P.SECONDS=1800
+def words(self,flags,**kw):
+    w=['--crate-name',crate,'src/main.rt' if os.path.exists(f'{top}/crates/{crate}/src/main.rt') else 'src/lib.rt']
+    for x in ofkit: w+=['--extern',f'{x}={KIT}/rlibs/{x}.rlib']
+    w+=['-L',f'dependency={KIT}/rlibs']
+    for b in bs:
+        if b in k.deps[crate]: w+=['--extern',f'{b}={built[b]}/{b}.rlib']
+        w+=['-L',f'dependency={built[b]}']
+    w+=['--antt-project',f'{KIT}/rattle/logic/antt-project.json','--logic-built',f'{KIT}/logic_built','--jobs','1','--links',f'{crate}=',*flags]
+    return w
+P.rt.Crate.words=words
+def libraries(c):
+    found={b:f'{built[b]}/{b}.rlib' for b in bs}
+    names=list(ofkit)
+    for b in bs: names+=[d for d in k.deps[b] if d not in k.deps]
+    for n in names:
+        found[n]=f'{KIT}/rlibs/{n}.rlib'
+        names+=[x for x in re.findall(r'(?m)^dep (\w+)$',P.rt.text_of(f'{found[n]}/format')) if x not in names]
+    return found
+P.libraries=libraries
+D='/work/h/queue'
+def alive(n):
+    try: os.kill(int(n.split('-')[1]),0); return True
+    except ProcessLookupError: return False
+    except PermissionError: return True
+class Turn:
+    def __enter__(self):
+        self.me=f'{time.time():.6f}-{os.getpid()}'; open(f'{D}/{self.me}','w').close()
+        while True:
+            ns=sorted(os.listdir(D))
+            for n in ns:
+                if not alive(n):
+                    try: os.unlink(f'{D}/{n}')
+                    except FileNotFoundError: pass
+            ns=sorted(os.listdir(D))
+            try: N=int(open('/work/h/slotsq.n').read())
+            except Exception: N=5
+            if ns.index(self.me)<N: return
+            time.sleep(1)
+    def __exit__(self,*a):
+        try: os.unlink(f'{D}/{self.me}')
+        except FileNotFoundError: pass
+was=P.Copy.check
+def check(self,names):
+    names=list(names)
+    t=time.monotonic()
+    with Turn():
+        t1=time.monotonic(); self.end+=t1-t
+        out=was(self,names)
+    t2=time.monotonic()
+    print(f'  [{time.strftime("%H:%M:%S")} waited {t1-t:.0f} s, checked {len(names) if names!=[""] else 0} names in {t2-t1:.0f} s]',file=sys.stderr,flush=True)
+    self.said=out
+    open(f'{top}/.q/last-{crate}','w').write(out or '')
+    return out
+P.Copy.check=check
+def main(verb,*a):
+    lines=[]
+    for f in ['/work/h/base.log',*glob.glob('/work/h/*.log'),*glob.glob('/work/h/plants/*.lines')]:
+        for l in open(f,errors='replace'):
+            if l.startswith(f'fn {crate}::') and l not in lines: lines.append(l)
+    print(f'\ncrate {crate}: x\n',*lines,sep='')
+    print(f'{len(lines)} functions known as proved',file=sys.stderr)
+    os.makedirs('out/incremental',exist_ok=True)
+    return 0
+P.rt.main=main
+os.chdir(f'{top}/crates/{crate}')
+sys.exit(P.main(*rest))
