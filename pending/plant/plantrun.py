@@ -72,6 +72,36 @@ def check(self,names):
     open(f'{top}/.q/last-{crate}','w').write(out or '')
     return out
 P.Copy.check=check
+# A check that names the plants says of the front end too what one that names none does: the one before is left out where each of them was compiled before.
+def compiled(self,plants):
+    while plants and not self.is_late():
+        self.write(plants)
+        plain=all(getattr(it,'compiles',False) or it.body.text==it.f.call() for it in plants) and not any(it.f.in_trait for it in plants)
+        said=self.check([n for it in plants for n in it.f.symbols or [it.name]] if plain else ['']) or ''
+        if P.re.search(r'(?m)^(only=|rattle: no verdict)',said):
+            for it in plants: it.compiles=True
+            self.kept=(list(plants),said) if plain else None
+            return plants
+        if not P.re.search(r'error[\[:]',said):
+            for it in plants*(not self.is_late()): it.kind,it.why='not-judged',P.NO_END
+            return []
+        wrong={self.lines.get((file,int(line))) for file,line in P.ERROR.findall(said)}
+        wrong.discard(None)
+        if not wrong and len(plants)>1:
+            half=len(plants)//2
+            wrong={*plants}-{*self.compiled(plants[:half]),*self.compiled(plants[half:])}
+            wrong=wrong or plants[half:]
+        for it in wrong or plants:
+            if it.kind=='not-run' and not self.is_late(): it.kind='not-source'
+        plants=[it for it in plants if it.kind=='not-run']
+    return []
+P.Copy.compiled=compiled
+old_judge=P.Copy.judge
+def judge(self,plants):
+    kept=getattr(self,'kept',None); self.kept=None
+    if kept and set(map(id,kept[0]))==set(map(id,plants)): P.read(plants,kept[1])
+    else: old_judge(self,plants)
+P.Copy.judge=judge
 def main(verb,*a):
     lines=[]
     for f in ['/work/h/base.log',*glob.glob('/work/h/*.log'),*glob.glob('/work/h/plants/*.lines')]:
