@@ -17,6 +17,6 @@ while True:
     more=[]
     if os.path.exists(f'{PL}/{go}.args'): more=open(f'{PL}/{go}.args').read().split()
     with open(f'{PL}/{go}.tmp','w') as f, open(f'{PL}/{go}.err','w') as e:
-        subprocess.call(['timeout','5400','python3','/work/h/plant/pending/plant/plantrun.py',go,'--max','80','--minutes','12','--all',*more],cwd='/work/h/plant',stdout=f,stderr=e)
+        subprocess.call(['timeout','7200','python3','/work/h/plant/pending/plant/plantrun.py',go,'--max','60','--minutes','100','--all',*more],cwd='/work/h/plant',stdout=f,stderr=e)
     os.rename(f'{PL}/{go}.tmp',f'{PL}/{go}.txt')
     print(time.strftime('%H:%M:%S'),go,round(time.time()-t),flush=True)
