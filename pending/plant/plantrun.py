@@ -37,6 +37,19 @@ def libraries(c):
         names+=[x for x in re.findall(r'(?m)^dep (\w+)$',P.rt.text_of(f'{found[n]}/format')) if x not in names]
     return found
 P.libraries=libraries
+import pickle
+B=P.bodies; sys.modules[B.__name__]=B
+def add_library(self,name,folder):
+    key=os.path.basename(built[name]) if name in built else 'kit'
+    at=f'{top}/.q/lib-{name}-{key}.pkl'
+    if os.path.exists(at): declared,makers,of_memory,defaults=pickle.load(open(at,'rb'))
+    else:
+        below=B.Source(folder); below.read('src/lib.rt')
+        declared,makers,of_memory,defaults=dict(below.declared),[it for it in below.functions if it.is_pub],below.of_memory,below.defaults
+        pickle.dump((declared,makers,of_memory,defaults),open(at+'.new','wb')); os.rename(at+'.new',at)
+    for it,found in declared.items(): self.below[it]+=[(('',name),*rest) for _,*rest in found]
+    self.makers+=makers; self.of_memory|=of_memory; self.defaults|=defaults
+B.Source.add_library=add_library
 D='/work/h/queue'
 def alive(n):
     try: os.kill(int(n.split('-')[1]),0); return True
@@ -75,7 +88,7 @@ P.Copy.check=check
 def compiled(self,plants):
     while plants and not self.is_late():
         self.write(plants)
-        plain=all(getattr(it,'compiles',False) or it.body.text==it.f.call() for it in plants) and not any(it.f.in_trait for it in plants)
+        plain=all(getattr(it,'compiles',False) or it.body==it.f.call() for it in plants) and not any(it.f.in_trait for it in plants)
         said=self.check([n for it in plants for n in it.f.symbols or [it.name]] if plain else ['']) or ''
         if P.re.search(r'(?m)^(only=|rattle: no verdict)',said):
             for it in plants: it.compiles=True
@@ -116,7 +129,7 @@ def chosen(crate_,source,symbols,only):
     if os.environ.get('PLANT_LOOSE'):
         eq=[f for f in planted if is_equation(source,f)]
         print(f'equations, not tried: {len(eq)} of {len(planted)} functions: '+' '.join(f.shown.split(' ',1)[1] for f in eq),flush=True)
-        planted=[f for f in planted if f not in eq]
+        planted=[f for f in planted if f not in eq and not f.in_trait]
         print(f'tried: {len(planted)}: '+' '.join(f.shown.split(' ',1)[1] for f in planted),flush=True)
     return planted,bare
 P.chosen=chosen
