@@ -5,6 +5,7 @@ use Rattle.std.proofs.lemmas.List.{append-nil}
 use Rattle.mq_calls.specs.Words.{Ident, Holder, Row, Which, held_in, released_in, retag_if, release_if, retag, selects, is_free, same_ident, Plain, Running, Change, ManagerValue, Wants, MeetsDone, silent, apply_all}
 use Rattle.mq_calls.specs.declared.deltas.Did.{Did}
 use Rattle.mq_calls.specs.State.{Queue as StateQueue}
+use Rattle.mq_calls.specs.declared.state.Seizure.{Seizure}
 use Rattle.mq_place.specs.States.{on_queues}
 use Rattle.mq_core.specs.declared.parts.ChannelEnds.{ChannelEnds}
 use Rattle.mq_core.specs.Views.{PartsValue, plain_of, frozen_of, channels_of}
@@ -28,6 +29,14 @@ tied_ends e x same t = record {
   max = t.max;
   moment = t.moment;
 }
+
+-- so who has seized which queue
+unfoldable pub seized : List Seizure → PartsValue → PartsValue
+seized s x = record x { ends = record x.ends { seizures = s } }
+
+pub seized_tied : (s : List Seizure) (x : PartsValue) → Tied x → Tied (seized s x)
+unfolding with_ends seized
+seized_tied s x t = tied_ends (record x.ends { seizures = s }) x (λ w. record { log = w.log; rows = w.rows; senders = w.senders; receivers = w.receivers; seats = w.seats }) t
 
 with_running : PartsValue → ChannelEnds → Running → Plain
 with_running x e r = record (plain_of x) { running = r; channels = channels_of e }

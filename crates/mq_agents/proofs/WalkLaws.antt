@@ -12,12 +12,13 @@ use Rattle.mq_message.specs.declared.place.Place.{Place}
 use Rattle.mq_message.specs.declared.place.Holder.{Holder}
 use Rattle.mq_calls.specs.declared.records.Remove.{Remove}
 use Rattle.mq_calls.specs.State.{Queue}
-use Rattle.mq_place.specs.States.{holds, named_row, rows_after}
+use Rattle.mq_place.specs.States.{QueueState, holds, named_row, queues_of, rows_after, state_in}
 use Rattle.mq_place.specs.Held.{held_left}
 use Rattle.mq_place.specs.Deadlines.{NonePast}
 use Rattle.mq_place.proofs.HeldLaws.{none_passed, passed_next}
-use Rattle.mq_calls.specs.Reads.{is_past}
-use Rattle.mq_spec_manager.specs.Agents.{at_number}
+use Rattle.mq_calls.specs.Reads.{is_past, queue_in}
+use Rattle.mq_spec_manager.specs.Agents.{at_number, held_on}
+use Rattle.mq_core.proofs.ReadLaws.{queue_none}
 use Rattle.mq_agents.specs.Ends.{is_free_past}
 
 pub any_found : (test : Row → Bool) (rows : List Row) → is_some (find test rows) ≡ list_any test rows
@@ -98,3 +99,8 @@ few_next so_far most n by after q row order lt e =
 pub few_done : (so_far : List Remove) (most n : ℕ) (by : Holder) (after : Option Place) (q : Queue) → most ≤ n → so_far ++ take (most - n) (held_left by after q) ≡ so_far
 few_done so_far most n by after q le =
     let none : most - n ≡ 0 = omega (arith, le) in ap (λ (k : ℕ). so_far ++ take k (held_left by after q)) none ∙ nothing_more so_far
+
+-- where no queue has the name
+pub none_held : (so_far : List Remove) (most : ℕ) (by : Holder) (name : List ℕ) (qs : List QueueState) → state_in name qs ≡ None → so_far ≡ so_far ++ take most (held_on by (queue_in name (queues_of qs)))
+none_held so_far most by name qs e =
+    sym (ap (λ (q : Queue). so_far ++ take most (held_on by q)) (queue_none name qs e) ∙ ap (λ (rs : List Remove). so_far ++ rs) (take_none most) ∙ nothing_more so_far)

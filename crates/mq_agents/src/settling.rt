@@ -393,11 +393,11 @@ fn tell_settled(effects: &mut Effects, rows: &[Remove], commit: bool)
 }
 
 /// So of the rows that are named.
-fn tell_rows(effects: &mut Effects, rows: &RowRoom, commit: bool)
-    requires { length rows.now.rows ≤ effects.old.room }
-    ensures { effects.new ≡ told_all (map (settle_did commit) rows.now.rows) effects.old }
+fn tell_rows<D: Disk>(effects: &mut Effects, parts: &Parts<D>, commit: bool)
+    requires { length parts.now.ends.rows.rows ≤ effects.old.room }
+    ensures { effects.new ≡ told_all (map (settle_did commit) parts.now.ends.rows.rows) effects.old }
 {
-    tell_settled(effects, rows.as_slice(), commit);
+    tell_settled(effects, parts.ends.rows.as_slice(), commit);
 }
 
 /// What was set aside for a unit in doubt is room of the log again. It takes no memory.
@@ -473,7 +473,7 @@ fn settle_unit<D: Disk>(
     take_room(&mut core.effects, before);
     let by = Holder::Batch(*channel);
     settle_rows(&mut core.parts, &by, commit);
-    tell_rows(&mut core.effects, &core.parts.ends.rows, commit);
+    tell_rows(&mut core.effects, &core.parts, commit);
     free_rows(&mut core.parts, less);
     core.effects.tell(Did::Hardened {
         channel: *channel,

@@ -15,10 +15,10 @@ AreSeatedFrom old left rs = (seats : List (List ℕ)) → KeepsSeats old seats �
 left_at : (rs : List ReceiverSide) (i : ℕ) (r : ReceiverSide) → i < length rs → r ≡ get_or rs i r → drop i rs ≡ r ∷ drop (i + 1) rs
 left_at rs i r lt is = drop-cons rs i r lt ∙ ap (λ (x : ReceiverSide). x ∷ drop (suc i) rs) (sym is) ∙ ap (λ (n : ℕ). r ∷ drop n rs) (sym (add-one i))
 
-pub seated_next : (old new : List (List ℕ)) (rs : List ReceiverSide) (i : ℕ) (r : ReceiverSide) → i < length rs → r ≡ get_or rs i r → KeepsSeats old new → has_seat r.channel new ≡ true
+pub seated_next : (old new : List (List ℕ)) (items rs : List ReceiverSide) (i : ℕ) (r : ReceiverSide) → items ≡ rs → i < length items → r ≡ get_or items i r → KeepsSeats old new → has_seat r.channel new ≡ true
     → AreSeatedFrom old (drop i rs) rs → AreSeatedFrom new (drop (i + 1) rs) rs
-seated_next old new rs i r lt is keeps has so_far = λ seats more rest.
-    so_far seats (λ name e. more name (keeps name e)) (subst (AreSeated seats) (sym (left_at rs i r lt is)) (more r.channel has, rest))
+seated_next old new items rs i r same lt is keeps has so_far = λ seats more rest.
+    so_far seats (λ name e. more name (keeps name e)) (subst (AreSeated seats) (sym (left_at rs i r (subst (λ (xs : List ReceiverSide). i < length xs) same lt) (subst (λ (xs : List ReceiverSide). r ≡ get_or xs i r) same is))) (more r.channel has, rest))
 
 pub seated_end : (old : List (List ℕ)) (left rs : List ReceiverSide) → left ≡ [] → AreSeatedFrom old left rs → AreSeated old rs
 seated_end old left rs none so_far = so_far old (λ name e. e) (subst (AreSeated old) (sym none) tt)

@@ -223,13 +223,13 @@ bound_unset c (b ∷ bs) h e = by (bytes_eq c b.channel) (comes_before c b.chann
     by true f is before e rest = same b.bound is
     by false true is before e rest = absurd (let none = none_behind c (seats_of bs) (λ k m. behind k m) in let wrong : true ≡ false = sym e ∙ none in cc)
       where
-        behind : (k : List ℕ) → Mem k (seats_of bs) → comes_before c k ≡ true
-        behind k m = before_trans c b.channel k before (ordered k bs h.0 m)
-
         ordered : (k : List ℕ) (xs : List Bond) → ((x : Bond) → Mem x xs → comes_before b.channel x.channel ≡ true) → Mem k (seats_of xs) → comes_before b.channel k ≡ true
         ordered k [] g m = absurd m
         ordered k (x ∷ xs) g (inl w) = ap (λ (n : List ℕ). comes_before b.channel n) w ∙ g x (inl refl)
         ordered k (x ∷ xs) g (inr w) = ordered k xs (λ y n. g y (inr n)) w
+
+        behind : (k : List ℕ) → Mem k (seats_of bs) → comes_before c k ≡ true
+        behind k m = before_trans c b.channel k before (ordered k bs h.0 m)
     by false false is before e rest = later b.bound is (rest e)
 
 -- a place that is given leaves those that are bound

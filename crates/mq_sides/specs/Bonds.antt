@@ -1,5 +1,5 @@
 -- Which receivers are bound, with a place for each that may be.
-use Rattle.std.specs.Prelude.{◌≡◌, ℕ, suc, Bool, true, false, List, [], ◌∷◌, map, if◌then◌else◌}
+use Rattle.std.specs.Prelude.{◌≡◌, ℕ, zero, suc, Bool, true, false, List, [], ◌∷◌, map, if◌then◌else◌}
 use Rattle.std.specs.List.{list_any}
 use Rattle.std.specs.Str.{bytes_eq}
 use Rattle.mq_sides.specs.declared.bonds.Bond.{Bond}
@@ -16,7 +16,7 @@ seats_of bs = map (λ (b : Bond). b.channel) bs
 -- the channel at a place isn't bound any more
 abbrev pub unbound_at : ℕ → List Bond → List Bond
 unbound_at n [] = []
-unbound_at 0 (b ∷ bs) = record b { bound = false } ∷ bs
+unbound_at zero (b ∷ bs) = record b { bound = false } ∷ bs
 unbound_at (suc n) (b ∷ bs) = b ∷ unbound_at n bs
 
 -- the channels that are bound, and those that have a place

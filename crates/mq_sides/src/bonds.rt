@@ -52,8 +52,14 @@ fn is_bond(bond: &Bond, channel: &ChName) -> bool
     bond.bound && *channel == bond.channel
 }
 
+/// Whether a channel's place among others says that it is bound.
+fn has_bond(bonds: &Items<Bond>, channel: &ChName) -> bool
+    ensures { result ≡ list_any (λ (b : Bond). b.bound && bytes_eq channel.now b.channel) bonds.now }
+{
+    bonds.as_slice().iter().any(|bond| is_bond(bond, channel))
+}
+
 /// Whether a channel has a place.
-#[tactic(auto, using(crate::proofs::BondLaws::seat_found))]
 fn has_seat(bonds: &Items<Bond>, channel: &ChName) -> bool
     ensures { result ≡ has_seat channel.now (seats_of bonds.now) }
 {
@@ -100,14 +106,10 @@ impl Bonds {
     }
 
     /// Whether a channel is bound.
-    #[tactic(auto, using(crate::proofs::BondLaws::any_bound))]
     pub fn is_bound(&self, channel: &ChName) -> bool
         ensures { result ≡ list_any (bytes_eq channel.now) self.now.bound }
     {
-        self.bonds
-            .as_slice()
-            .iter()
-            .any(|bond| is_bond(bond, channel))
+        has_bond(&self.bonds, channel)
     }
 
     /// A channel is bound from now on. It takes no memory where the channel has its place.

@@ -12,6 +12,7 @@ use Rattle.mq_core.specs.Views.{PartsValue, plain_of}
 use Rattle.mq_get.specs.Does.{seen}
 use Rattle.mq_get.specs.Leaving.{gone_parts}
 use Rattle.mq_get.proofs.GetLaws.{parts_are}
+use Rattle.mq_get.proofs.PathLaws.{halt_tied}
 use Rattle.mq_agents.specs.Ends.{halt_of}
 use Rattle.mq_agents.specs.Expiring.{agent_of_halt}
 use Rattle.mq_agents.proofs.ExpireLaws.{nothing, short_few, begun_meets, begun_told, cleared_meets, cleared_told, halted_meets, halted_told}
@@ -21,6 +22,10 @@ pub drop_expired-requires-clause-short : goal.drop_expired-requires-clause-short
 drop_expired-requires-clause-short g c =
     let few = ap length c.as_slice.ensures in
     short_few c.queue_of_sender-queue.result c.as_slice.result.now (omega (arith, few, c.len.ensures, c.if-len-gt-MOST_ROWS.false))
+
+pub invariant_of-core-in-Err-drop_expired : goal.invariant_of-core-in-Err-drop_expired
+invariant_of-core-in-Err-drop_expired g c =
+    halt_tied (gone_parts whys.Expired c.queue_of_sender-queue.result c.as_slice.result.now) c.core.inside.parts c.drop_expired.new.parts c.drop_expired.new.effects c.in-Err-drop_expired.halt c.core.invariant c.in-Err-drop_expired.ensures
 
 pub returns-in-Ok-drop_expired-clause-meets : goal.returns-in-Ok-drop_expired-clause-meets
 returns-in-Ok-drop_expired-clause-meets g c =

@@ -1,4 +1,4 @@
-use Rattle.std.proofs.Common.{◌≡◌, ℕ, ◌+◌, ◌∙◌, List, ap, sym, subst}
+use Rattle.std.proofs.Common.{ℕ, ◌+◌, ◌∙◌, List, ap, sym, subst}
 use Rattle.mq_sides.specs.Bonds.{has_seat}
 use Rattle.mq_calls.specs.Words.{set_receiver}
 use Rattle.mq_core.specs.declared.parts.ChannelEnds.{ChannelEnds}

@@ -12,7 +12,7 @@ use Rattle.mq_core.specs.declared.parts.StoppedWrite.TheVariants as writes
 use Rattle.mq_core.specs.Views.{PartsValue, frozen_of}
 use Rattle.mq_core.specs.Ties.{EndsReady, mode_is_up}
 use Rattle.mq_core.proofs.MeetLaws.{mode_up}
-use Rattle.mq_agents.specs.Written.{IsAside, drawn, is_live, live_need, with_receivers, note_record, noted_change}
+use Rattle.mq_agents.specs.Written.{IsAside, is_live, live_need, with_receivers, note_record, noted_change}
 use Rattle.mq_agents.proofs.ReadyLaws.{closing_spare, live_found, live_seat, old_open, old_receiver, old_told, receiver_closed}
 use Rattle.mq_agents.proofs.WriteLaws.{aside_bodies, aside_view, drawn_aside, hardened_tied, hardened_meets, hardening_ends, hardening_told, hardened_wrote, hardened_bodies, not_wanted, receiver_hardened, tied_after, wants_none}
 use Rattle.mq_core.specs.Values.{CoreValue, manager_of, behind_record}

@@ -1,4 +1,4 @@
-use Rattle.std.proofs.Common.{◌≡◌, ℕ, List, ap, sym, subst, ◌∙◌, arith}
+use Rattle.std.proofs.Common.{◌≡◌, ℕ, List, ap, subst, ◌∙◌, arith}
 use Rattle.mq_sides.specs.Bonds.{BondsKept, KeepsSeats}
 use Rattle.mq_core.specs.Views.{PartsValue}
 use Rattle.mq_agents.proofs.WriteLaws.{seated_more}

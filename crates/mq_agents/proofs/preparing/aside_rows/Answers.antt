@@ -1,4 +1,4 @@
-use Rattle.std.proofs.Common.{◌≡◌, ℕ, ◌+◌, ◌≤◌, ◌∙◌, length, sym, ap, arith}
+use Rattle.std.proofs.Common.{◌+◌, length, ap, arith}
 use Rattle.mq_place.specs.Rooms.{RowsKept}
 use Rattle.mq_core.specs.declared.parts.ChannelEnds.{ChannelEnds}
 use Rattle.mq_core.specs.Views.{PartsValue}

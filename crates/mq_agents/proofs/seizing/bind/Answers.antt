@@ -1,4 +1,4 @@
-use Rattle.std.proofs.Common.{◌≡◌, ◌∙◌, sym, ap, subst, refl}
+use Rattle.std.proofs.Common.{◌∙◌, true, sym, ap}
 use Rattle.std.specs.Prelude.{[], ◌∷◌, Ok}
 use Rattle.mq_calls.specs.Words.{Plain, is_up, receiver_data}
 use Rattle.mq_calls.specs.State.Change.{SetBound}

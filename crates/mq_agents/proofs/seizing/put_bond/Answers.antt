@@ -1,4 +1,4 @@
-use Rattle.std.proofs.Common.{◌≡◌, ℕ, List, ap, sym, subst, ◌∙◌}
+use Rattle.std.proofs.Common.{ℕ, List, ap, sym, subst, ◌∙◌}
 use Rattle.mq_calls.specs.Words.{set_named}
 use Rattle.mq_sides.specs.Bonds.{BondsKept, KeepsSeats, has_seat}
 use Rattle.mq_core.specs.Views.{PartsValue}

@@ -3,6 +3,7 @@ use Rattle.std.specs.Prelude.{Ok}
 use Rattle.mq_calls.specs.Words.{MeetsInRoom}
 use Rattle.mq_spec_manager.specs.Agents.{set_bound}
 use Rattle.mq_core.specs.Values.{manager_of}
+use Rattle.mq_agents.specs.Ends.{by_memory}
 use Rattle.mq_agents.proofs.BindLaws.{bond_in_room}
 use Rattle.mq_agents.proofs.seizing.set_bound.Goals as goal
 

@@ -1,5 +1,5 @@
-use Rattle.std.proofs.Common.{◌≡◌, ◌∙◌, ap}
-use Rattle.std.specs.Prelude.{[], ◌∷◌, Ok}
+use Rattle.std.proofs.Common.{◌∙◌, false, ap}
+use Rattle.std.specs.Prelude.{[], ◌∷◌}
 use Rattle.mq_calls.specs.Words.{Plain, is_up}
 use Rattle.mq_calls.specs.State.Change.{SetBound}
 use Rattle.mq_calls.specs.Meeting.Wants.{Anywhere, Nowhere}

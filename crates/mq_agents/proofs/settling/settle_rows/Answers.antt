@@ -11,12 +11,12 @@ use Rattle.mq_agents.proofs.settling.settle_rows.Goals as goal
 pub returns : goal.returns
 returns g c =
     let x : PartsValue = c.args.parts.now in
-    let taken : c.take_rows.new.parts ≡ with_named none_named x = c.take_rows.ensures.same in
-    let rows : c.as_slice.result.now ≡ flat_map (held_on c.args.by.now) (queues_of x.queues.states) = c.as_slice.ensures ∙ ap (λ (k : RowsKept). k.rows) c.take_rows.ensures.rows ∙ c.requires.listed in
+    let taken : c.take_rows-rows.new.parts ≡ with_named none_named x = c.take_rows-rows.ensures.same in
+    let rows : c.as_slice.result.now ≡ flat_map (held_on c.args.by.now) (queues_of x.queues.states) = c.as_slice.ensures ∙ ap (λ (k : RowsKept). k.rows) c.take_rows-rows.ensures.rows ∙ c.requires.listed in
     c.put_rows.ensures
-    ∙ ap (with_named c.take_rows.result)
+    ∙ ap (with_named c.take_rows-rows.result)
     (c.settle_each.ensures
     ∙ (λ i. each_settled c.args.commit (rows i) (taken i))
     ∙ each_settles c.args.commit c.args.by.now (with_named none_named x) c.requires.lone)
-    ∙ ap (λ (k : RowsKept). with_named k (rows_settled c.args.commit c.args.by.now (with_named none_named x))) c.take_rows.ensures.rows
+    ∙ ap (λ (k : RowsKept). with_named k (rows_settled c.args.commit c.args.by.now (with_named none_named x))) c.take_rows-rows.ensures.rows
     ∙ settled_back c.args.commit c.args.by.now x

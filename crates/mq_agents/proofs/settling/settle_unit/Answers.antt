@@ -49,16 +49,6 @@ list_rows-requires-clause-named g c =
     let v = c.core.view_is ∙ c.begin_call.ensures in
     subst (λ (p : Plain). AreNamed p.queues) (sym (ap (λ (w : CoreValue). w.plain) v)) c.requires.named
 
-pub invariant_of-core-in-Err : goal.invariant_of-core-in-Err
-invariant_of-core-in-Err g c =
-    let v = c.core.view_is ∙ c.begin_call.ensures in
-    let plain = ap (λ (w : CoreValue). w.plain) v in
-    let x : PartsValue = c.core.inside.parts in
-    let k : PartsValue = c.list_rows.new.parts in
-    let up = mode_up (frozen_of x) x.mode (ap (λ (p : Plain). is_up p.running) plain ∙ c.requires.up) in
-    let more = listed_more x k c.list_rows.ensures.same c.list_rows.ensures.room in
-    tied_roomier x k more c.core.invariant
-
 pub returns-in-Err-clause-meets : goal.returns-in-Err-clause-meets
 returns-in-Err-clause-meets g c =
     let v = c.core.view_is ∙ c.begin_call.ensures in

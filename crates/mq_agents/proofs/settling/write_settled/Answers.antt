@@ -42,8 +42,8 @@ returns-in-Err-append_forced-clause-written g c =
     let stop = c.in-Err-append_forced.stop in
     let sides = c.undo_side.ensures ∙ c.in-Ok-swap_side.ensures.undo.same ∙ ap (λ (p : PartsValue). p.ends.senders) seen in
     let undone : PartsValue = record x { log = new } in
-    let named : c.into_items.result ≡ x.ends.rows.rows = c.into_items.ensures ∙ ap (λ (k : RowsKept). k.rows) (c.take_rows.ensures.rows ∙ ap (λ (p : PartsValue). p.ends.rows) seen) in
-    let taken : c.take_rows.new.parts ≡ with_named none_named undone = c.take_rows.ensures.same ∙ ap (with_named none_named) (λ i. record (seen i) { ends = put_in (sides i) (seen i).ends; log = new }) in
+    let named : c.into_items.result ≡ x.ends.rows.rows = c.into_items.ensures ∙ ap (λ (k : RowsKept). k.rows) (c.take_rows-rows.ensures.rows ∙ ap (λ (p : PartsValue). p.ends.rows) seen) in
+    let taken : c.take_rows-rows.new.parts ≡ with_named none_named undone = c.take_rows-rows.ensures.same ∙ ap (with_named none_named) (λ i. record (seen i) { ends = put_in (sides i) (seen i).ends; log = new }) in
     record {
       at = with_named none_named undone;
       is = record {

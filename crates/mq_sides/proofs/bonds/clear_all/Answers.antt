@@ -1,4 +1,4 @@
-use Rattle.std.proofs.Common.{◌≡◌, ◌<◌, ◌≤◌, List, length, refl, ap, arith, sym, ◌∙◌}
+use Rattle.std.proofs.Common.{List, length, refl, ap, arith, ◌∙◌}
 use Rattle.mq_sides.specs.declared.bonds.Bond.{Bond}
 use Rattle.mq_sides.specs.Bonds.{seats_of}
 use Rattle.mq_sides.proofs.BondLaws.{unbound_end, unbound_long, unbound_next, unbound_seats}

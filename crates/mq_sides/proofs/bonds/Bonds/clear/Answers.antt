@@ -1,4 +1,4 @@
-use Rattle.std.proofs.Common.{◌≡◌, ℕ, List, ap, sym, subst, ◌∙◌}
+use Rattle.std.proofs.Common.{ℕ, List, ap, sym, subst, ◌∙◌}
 use Rattle.mq_sides.specs.Bonds.{BondsKept}
 use Rattle.mq_sides.specs.Places.{AreByName}
 use Rattle.mq_sides.proofs.bonds.Bonds.clear.Goals as goal

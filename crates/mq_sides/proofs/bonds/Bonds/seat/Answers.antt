@@ -1,4 +1,4 @@
-use Rattle.std.proofs.Common.{◌≡◌, ℕ, List, true, false, ap, sym, subst, ◌∙◌}
+use Rattle.std.proofs.Common.{ℕ, List, false, ap, sym, subst, ◌∙◌}
 use Rattle.mq_sides.specs.declared.bonds.Bond.{Bond}
 use Rattle.mq_sides.specs.Bonds.{BondsKept, KeepsSeats, bound_of, has_seat, seats_of}
 use Rattle.mq_sides.specs.Places.{AreByName}

@@ -17,7 +17,8 @@ returns-then-not-has_seat c =
     let none : has_seat c.args.channel.now (seats_of bs) ≡ false = sym c.has_seat.ensures ∙ c.if-not-has_seat.true in
     let bound = unbound_none c.args.channel.now bs none ∙ ap (λ (k : BondsKept). filter (λ (n : List ℕ). not (bytes_eq c.args.channel.now n)) k.bound) c.self.view_is in
     let seats = ap (λ (k : BondsKept). k.seats) c.self.view_is in
-    λ i. kept (bound i) (seats i)
+    let same : kept (bound_of bs) (seats_of bs) ≡ kept (filter (λ (n : List ℕ). not (bytes_eq c.args.channel.now n)) c.args.self.now.bound) c.args.self.now.seats = λ i. kept (bound i) (seats i) in
+    sym c.self.view_is ∙ same
 
 pub unreachable-requires : goal.unreachable-requires
 unreachable-requires c =
