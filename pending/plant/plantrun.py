@@ -17,7 +17,7 @@ def load(name,path):
 sys.dont_write_bytecode=True
 os.environ['TMPDIR']=f'{top}/.q/tmp'; os.makedirs(f'{top}/.q/tmp',exist_ok=True)
 P=load('rtplant','/opt/rattle/bin/rt-plant')
-P.SECONDS=7200
+P.SECONDS=900
 def words(self,flags,**kw):
     w=['--crate-name',crate,'src/main.rt' if os.path.exists(f'{top}/crates/{crate}/src/main.rt') else 'src/lib.rt']
     for x in ofkit: w+=['--extern',f'{x}={KIT}/rlibs/{x}.rlib']
@@ -133,6 +133,9 @@ def chosen(crate_,source,symbols,only):
         print(f'tried: {len(planted)}: '+' '.join(f.shown.split(' ',1)[1] for f in planted),flush=True)
     return planted,bare
 P.chosen=chosen
+# Where /work/h/plants/first is there only bodies that give up are tried (constants, errors, arguments, nothing done), none that calls the real function.
+old_plant=P.plant
+P.plant=lambda crate_,copy,functions,proved,most: old_plant(crate_,copy,functions,[] if os.path.exists('/work/h/plants/first') else proved,most)
 def main(verb,*a):
     lines=[]
     for f in ['/work/h/base.log',*glob.glob('/work/h/*.log'),*glob.glob('/work/h/plants/*.lines')]:
