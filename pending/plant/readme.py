@@ -23,7 +23,7 @@ S={
 'mq_moves':EYE+": only want of memory"+NOT,
 'mq_receive':EYE+": only want of memory"+NOT,
 'mq_manager':EYE+": want of memory, where a call may take memory; `begin` as crates/mq_restart says, `kept` as crates/mq_agents"+NOT,
-'mq_sides':EYE+": want of memory, and places among those that may be bound that nobody asked for"+NOT,
+'mq_sides':"`rt plant` was read, over the 11 of the 31 public functions whose clauses are not equations of all that they give and change, with the bodies that give up: of 15 that it judged the contracts refuse 11 (among them want of memory for a name that has its place), and four pass, all want of memory (`KeptBatch::new`, `KeptReceiver::new`, `KeptSender::new`, `sender_data`). By eye: `bind` and `seat` may give places that nobody asked for.",
 'mq_events':EYE+": want of memory (so `has_few_rows` that says no, after which the node's calls find none), and more room than asked or set aside"+NOT,
 'mq_acts':EYE+": only want of memory. `Serves` and `Plays` don't say of the entries themselves that a failed disk is told where its count rose in that very call; the node's type keeps it of all of them"+NOT,
 'mq_log':"`rt plant` was read, over the 14 of the 23 public functions whose clauses are not equations of all that they give and change: of 52 bodies that it judged the contracts refuse 49, and two pass: `set_aside` that wants memory, and a scan that begins at the front again. 8 it could not judge, and of `start` and `end` no body compiled: read by eye, they let through more memory than asked, and nothing else.",
