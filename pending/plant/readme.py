@@ -29,6 +29,7 @@ S={
 'mq_log':"`rt plant` was read, over the 14 of the 23 public functions whose clauses are not equations of all that they give and change: of 52 bodies that it judged the contracts refuse 49, and two pass: `set_aside` that wants memory, and a scan that begins at the front again. 8 it could not judge, and of `start` and `end` no body compiled: read by eye, they let through more memory than asked, and nothing else.",
 'mq_unit':"`rt plant` was read, over the five of the 24 public functions whose clauses are not equations of all that they give and change: of 16 bodies that it judged the contracts refuse 11, one does what the\nreal one does, and four pass: want of memory (`Effects::reserve`, `push`), and `can_be_kept` and `can_be_forced` that always say no, with which `push` finds no memory.",
 'mq_turns':EYE+": only want of memory (so its tests before an act that say no, and `released`, which in truth never lacks it)"+NOT,
+'mq_shelves':"Each public function's clauses, those of `Racks` among them, were read by eye since: want of memory; and what stands behind a refusal, which recovery drops.",
 'mq_takes':EYE+": only want of memory (so its tests before an act that say no)"+NOT,
 'mq_recover':EYE+": only want of memory; what is left behind a refusal within is given out by none"+NOT,
 }
