@@ -1,5 +1,5 @@
 -- What each change does. Rows are only placed, kept or retagged.
-use Rattle.std.specs.Prelude.{ℕ, ℤ, ◌+◌, ◌-◌, ◌==◌, Bool, true, false, not, ◌&&◌, ◌||◌, List, [], ◌∷◌, ◌++◌, if◌then◌else◌, Option, Some, None, map, filter}
+use Rattle.std.specs.Prelude.{ℕ, ℤ, ◌+◌, ◌-◌, ◌==◌, Bool, true, false, not, ◌&&◌, ◌||◌, List, [], ◌∷◌, ◌++◌, if◌then◌else◌, Option, Some, None, is_some, map, filter}
 use Rattle.std.specs.List.{list_any}
 use Rattle.std.specs.Str.{bytes_eq}
 use Rattle.std.specs.Ordering.{is_lt, nat_cmp}
@@ -11,7 +11,7 @@ use Rattle.mq_objects.specs.Changed.{changed}
 use Rattle.mq_calls.specs.State.{Plain, Queue, Connection, Handle, Seizure, Batch, SenderSide, ReceiverSide, Channels, Which, Change, fresh_queue}
 use Rattle.mq_calls.specs.State.Which.{Among, HeldBy, HeldByUnits, Nonpersistent}
 use Rattle.mq_calls.specs.State.Change.{Place as Places, Try, Leave, Hold, Release, Connect, Disconnect, OpenHandle, CloseHandle, SetCursor, Pend, EndUnit, MakeStale, CountIdent, ChangeObjects, Renew, DropQueue, SwitchOn, Serve, SetSender, SetReceiver, Undoubt, Seize, Unseize, AddBatch, DropBatch, SetBound, SetMoment, ForgetAll}
-use Rattle.mq_calls.specs.Reads.{stored, is_persistent, is_by_unit, has_step}
+use Rattle.mq_calls.specs.Reads.{stored, receiver_in, is_persistent, is_by_unit, has_step}
 use Rattle.mq_calls.specs.Condition.{condition, is_depth}
 
 -- a queue takes the place of the one that has its name, or stands last
@@ -135,9 +135,14 @@ without_batch channel c = record c { batches = filter (λ (b : Batch). not (byte
 abbrev pub unbound : List ℕ → Channels → Channels
 unbound channel c = record c { bound = filter (λ other. not (bytes_eq channel other)) c.bound }
 
--- a receiver is bound, or not
+-- a channel's name is noted, once, where that is so
+abbrev pub noted_if : Bool → List ℕ → List (List ℕ) → List (List ℕ)
+noted_if true channel names = set_named (λ (name : List ℕ). name) channel names
+noted_if false channel names = names
+
+-- A receiver is bound, or not. One that has hardened nothing has no session to be bound in, and isn't.
 abbrev pub set_bound : Bool → List ℕ → Channels → Channels
-set_bound true channel c = record c { bound = set_named (λ (name : List ℕ). name) channel c.bound }
+set_bound true channel c = record c { bound = noted_if (is_some (receiver_in channel c.receivers)) channel c.bound }
 set_bound false channel c = unbound channel c
 
 -- a queue after a stop: no trigger is due
