@@ -1,12 +1,9 @@
 -- A receiver that is bound, or is not any more.
 use Rattle.std.proofs.Common.{◌≡◌, ℕ, true, false, List, refl, ap, sym, subst, ◌∙◌}
-use Rattle.std.specs.Prelude.{Option, Some, None, Result, Ok, Err, OnErr, find, filter, is_some, not, option_map}
+use Rattle.std.specs.Prelude.{Option, Some, None, find, filter, is_some, not, option_map}
 use Rattle.std.specs.List.{AllByRecursion}
 use Rattle.std.specs.Str.{bytes_eq}
-use Rattle.mq_base.specs.declared.want.NoMemory.{NoMemory}
-use Rattle.mq_calls.specs.Words.{Plain, ReceiverData, ManagerValue, MeetsInRoom, MeetsOrWants, receiver_data, receiver_in, set_named}
-use Rattle.mq_spec_manager.specs.Agents.{set_bound}
-use Rattle.mq_agents.specs.Ends.{by_memory}
+use Rattle.mq_calls.specs.Words.{Plain, ReceiverData, noted_if, receiver_in}
 use Rattle.mq_calls.specs.declared.state.ReceiverSide.{ReceiverSide}
 use Rattle.mq_sides.specs.Bonds.{BondsKept, has_seat}
 use Rattle.mq_sides.proofs.BondLaws.{all_seated, seat_of_found}
@@ -30,7 +27,7 @@ bound_tied channel x y b t = subst Tied (sym b.same) (tied_ends (with_bonds x.en
 
 -- what the plain manager then is
 abbrev pub with_bound_of : List ℕ → Plain → Plain
-with_bound_of channel p = record p { channels = record p.channels { bound = set_named (λ (name : List ℕ). name) channel p.channels.bound } }
+with_bound_of channel p = record p { channels = record p.channels { bound = noted_if (is_some (receiver_in channel p.channels.receivers)) channel p.channels.bound } }
 
 with_bound : Plain → List (List ℕ) → Plain
 with_bound p ns = record p { channels = record p.channels { bound = ns } }
@@ -60,16 +57,14 @@ seat_in : (seats : List (List ℕ)) (channel : List ℕ) (rs : List ReceiverSide
 seat_in seats channel rs None h e some = absurd cc
 seat_in seats channel rs (Some r) h e some = seat_of_found seats channel r rs h e
 
-none_of : (o : Option ReceiverData) → (is_some o ≡ true → false ≡ true) → o ≡ None
-none_of None h = refl
-none_of (Some d) h = absurd (cc (h refl))
+pub is_seated : (channel : List ℕ) (e : ChannelEnds) (spare : ℕ) → EndsReady e spare → is_some (receiver_in channel e.receivers) ≡ true → has_seat channel e.bound.seats ≡ true
+is_seated channel e spare w some =
+    seat_in e.bound.seats channel e.receivers (find (λ (r : ReceiverSide). bytes_eq channel r.channel) e.receivers) w.seats refl (ap (λ (o : Option ReceiverData). is_some o) (sym (receiver_found channel e.receivers)) ∙ some)
 
-pub no_receiver : (channel : List ℕ) (e : ChannelEnds) (spare : ℕ) → EndsReady e spare → has_seat channel e.bound.seats ≡ false → receiver_in channel e.receivers ≡ None
-no_receiver channel e spare w none = none_of (receiver_in channel e.receivers) (λ some.
-    sym none ∙ seat_in e.bound.seats channel e.receivers (find (λ (r : ReceiverSide). bytes_eq channel r.channel) e.receivers) w.seats refl (ap (λ (o : Option ReceiverData). is_some o) (sym (receiver_found channel e.receivers)) ∙ some))
-
--- so it is bound without memory
-pub bond_in_room : (channel : List ℕ) (p : Plain) (v new : ManagerValue) (r : Result (Unit {0}) NoMemory) → OnErr r (receiver_data channel p ≡ None) → is_some (receiver_data channel p) ≡ true
-    → MeetsOrWants v (set_bound channel true p) (by_memory r) new → MeetsInRoom v (set_bound channel true p) (by_memory r) new
-bond_in_room channel p v new (Ok value) none some m = m
-bond_in_room channel p v new (Err want) none some m = absurd (let wrong : false ≡ true = ap (λ (o : Option ReceiverData). is_some o) (sym none) ∙ some in cc)
+-- one that has hardened nothing stays as it is
+pub bound_none : (channel : List ℕ) (x y : PartsValue) → y ≡ x → receiver_in channel x.ends.receivers ≡ None → IsBoundNow channel x y
+bound_none channel x y e none = subst (λ (z : PartsValue). IsBoundNow channel x z) (sym e) (record {
+    same = refl;
+    bound = sym (ap (λ (o : Option ReceiverData). noted_if (is_some o) channel x.ends.bound.bound) none);
+    seats = λ name had. had;
+  })

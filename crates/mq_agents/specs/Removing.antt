@@ -1,9 +1,9 @@
 -- Rows that go behind a record, and the room of it.
-use Rattle.std.specs.Prelude.{◌≡◌, ℕ, ◌+◌, ◌≤◌, Bool, false, List, [], ◌∷◌, length, Option, Some, None, Result, Ok, Err, filter, not}
+use Rattle.std.specs.Prelude.{◌≡◌, ℕ, ◌+◌, ◌≤◌, Bool, false, List, [], ◌∷◌, length, Option, Some, None, Result, Ok, Err, filter, is_some, not}
 use Rattle.std.specs.Str.{bytes_eq}
 use Rattle.mq_message.specs.declared.place.Holder.TheVariants as holders
 use Rattle.mq_core.specs.declared.parts.ChannelEnds.{ChannelEnds}
-use Rattle.mq_calls.specs.Words.{held_in, set_named, Plain, Refuse, say, batch_of, is_full, Ident, InDoubt, need, record_size, Message, Among, kept_in, is_persistent}
+use Rattle.mq_calls.specs.Words.{held_in, noted_if, receiver_in, set_named, Plain, Refuse, say, batch_of, is_full, Ident, InDoubt, need, record_size, Message, Among, kept_in, is_persistent}
 use Rattle.mq_calls.specs.declared.agents.PrepareFault.{PrepareFault}
 use Rattle.mq_calls.specs.declared.state.Batch.{Batch}
 use Rattle.mq_calls.specs.declared.records.LogRecord.{LogRecord}
@@ -72,10 +72,10 @@ Doubts channel last p (Err (prepare_faults.Stop stop)) = stop ≡ agent_stops.No
 abbrev pub without_one : List ℕ → ChannelEnds → ChannelEnds
 without_one channel e = record e { batches = filter (λ (b : Batch). not (bytes_eq channel b.channel)) e.batches }
 
--- a receiver is bound, and each that had a place has one; nothing else has changed
+-- a receiver that has hardened something is bound, and each that had a place has one; nothing else has changed
 pub record IsBoundNow (channel : List ℕ) (x y : PartsValue) : Type 0 where
   pub same : y ≡ record x { ends = record x.ends { bound = y.ends.bound } }
-  pub bound : y.ends.bound.bound ≡ set_named (λ (name : List ℕ). name) channel x.ends.bound.bound
+  pub bound : y.ends.bound.bound ≡ noted_if (is_some (receiver_in channel x.ends.receivers)) channel x.ends.bound.bound
   pub seats : KeepsSeats x.ends.bound.seats y.ends.bound.seats
 
 -- a receiver isn't bound, and keeps its place

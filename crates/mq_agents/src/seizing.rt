@@ -1,9 +1,9 @@
 //! A sender opens its transmission queue and leaves it; a receiver is bound or not.
-ghost use Rattle.std.specs.Prelude.{◌≡◌, None, Ok, OnOk, OnErr, is_some, true, false, not, ◌||◌};
-ghost use Rattle.mq_calls.specs.Words.{MeetsInRoom, MeetsOrWants, channel_of, has_held_by_other, is_open_for_input, receiver_data};
+ghost use Rattle.std.specs.Prelude.{◌≡◌, Ok, is_some, true, false, not, ◌||◌};
+ghost use Rattle.mq_calls.specs.Words.{MeetsInRoom, MeetsOrWants, channel_of, has_held_by_other, is_open_for_input, receiver_in};
 ghost use Rattle.mq_spec_manager.specs.Agents.{IsUp, IsSenderHere, channel_queue, leave, seize, set_bound};
 ghost use Rattle.mq_core.specs.Views.{plain_of};
-ghost use Rattle.mq_agents.specs.Ends.{Seizes, by_memory, by_seize};
+ghost use Rattle.mq_agents.specs.Ends.{Seizes, by_seize};
 ghost use Rattle.mq_agents.specs.Removing.{IsBoundNow, receiver_unbound};
 ghost use Rattle.mq_sides.specs.Bonds.{has_seat};
 ghost use Rattle.mq_core.specs.Values.{manager_of, WritesLog};
@@ -14,7 +14,7 @@ use mq_calls::{SeizeFault, Seizure};
 use mq_core::{Core, Parts};
 use mq_disk::Disk;
 use mq_objects::ChannelKind;
-use mq_sides::{drop_side, set_side};
+use mq_sides::{drop_side, receiver_of, set_side};
 
 /// The transmission queue that a sender's definition names.
 fn channel_queue<D: Disk>(parts: &Parts<D>, channel: &ChName) -> QName
@@ -99,17 +99,18 @@ pub fn leave<D: Disk>(core: &mut Core<D>, channel: &ChName)
     drop_side(core.parts.alloc, &mut core.parts.ends.seizures, channel);
 }
 
-// A receiver is bound. Where it has its place, it takes no memory.
-fn put_bond<D: Disk>(parts: &mut Parts<D>, channel: &ChName) -> Result<(), NoMemory>
-    ensures ok { OnOk result (IsBoundNow channel.now parts.old parts.new) }
-    ensures err { OnErr result (parts.new ≡ parts.old) }
-    ensures lacks { OnErr result (has_seat channel.now parts.old.ends.bound.seats ≡ false) }
+// A receiver is bound where it has hardened something, and so has its place. It takes no memory.
+fn put_bond<D: Disk>(parts: &mut Parts<D>, channel: &ChName)
+    requires seated { is_some (receiver_in channel.now parts.old.ends.receivers) ≡ true → has_seat channel.now parts.old.ends.bound.seats ≡ true }
+    ensures { IsBoundNow channel.now parts.old parts.new }
 {
+    if receiver_of(&parts.ends.receivers, channel).is_none() {
+        return;
+    }
     match parts.ends.bound.bind(channel) {
         Ok(()) => {}
-        Err(NoMemory) => return Err(NoMemory),
+        Err(NoMemory) => unreachable!(),
     }
-    Ok(())
 }
 
 // A receiver isn't bound, and keeps its place. It takes no memory.
@@ -119,23 +120,16 @@ fn drop_bond<D: Disk>(parts: &mut Parts<D>, channel: &ChName)
     parts.ends.bound.unbind(channel);
 }
 
-/// A receiver is bound from now on. Of one that has hardened something it takes no memory.
-///
-/// # Errors
-///
-/// No memory; nothing has changed.
-pub fn bind<D: Disk>(core: &mut Core<D>, channel: &ChName) -> Result<(), NoMemory>
+/// A receiver is bound from now on; one that has hardened nothing has no session to be bound in, and stays as it is.
+/// It takes no memory.
+pub fn bind<D: Disk>(core: &mut Core<D>, channel: &ChName)
     requires up { IsUp core.old.plain }
-    ensures meets { MeetsOrWants (manager_of core.old) (set_bound channel.now true core.old.plain) (by_memory result) (manager_of core.new) }
-    ensures told { WritesLog core.old (set_bound channel.now true core.old.plain) (by_memory result) core.new }
-    ensures wants { OnErr result (receiver_data channel.now core.old.plain ≡ None) }
+    ensures meets { MeetsOrWants (manager_of core.old) (set_bound channel.now true core.old.plain) (Ok tt) (manager_of core.new) }
+    ensures room { MeetsInRoom (manager_of core.old) (set_bound channel.now true core.old.plain) (Ok tt) (manager_of core.new) }
+    ensures told { WritesLog core.old (set_bound channel.now true core.old.plain) (Ok tt) core.new }
 {
     core.begin_call();
-    match put_bond(&mut core.parts, channel) {
-        Ok(()) => {}
-        Err(NoMemory) => return Err(NoMemory),
-    }
-    Ok(())
+    put_bond(&mut core.parts, channel);
 }
 
 /// A receiver isn't bound from now on. It takes no memory.
@@ -149,21 +143,15 @@ pub fn unbind<D: Disk>(core: &mut Core<D>, channel: &ChName)
     drop_bond(&mut core.parts, channel);
 }
 
-/// Whether a receiver is bound from now on. Where it has hardened something, or isn't bound, it takes no memory.
-///
-/// # Errors
-///
-/// No memory; nothing has changed.
-pub fn set_bound<D: Disk>(core: &mut Core<D>, channel: &ChName, bound: bool) -> Result<(), NoMemory>
+/// Whether a receiver is bound from now on; one that has hardened nothing never is. It takes no memory.
+pub fn set_bound<D: Disk>(core: &mut Core<D>, channel: &ChName, bound: bool)
     requires up { IsUp core.old.plain }
-    ensures meets { MeetsOrWants (manager_of core.old) (set_bound channel.now bound core.old.plain) (by_memory result) (manager_of core.new) }
-    ensures told { WritesLog core.old (set_bound channel.now bound core.old.plain) (by_memory result) core.new }
-    ensures room { bound ≡ false → MeetsInRoom (manager_of core.old) (set_bound channel.now bound core.old.plain) (by_memory result) (manager_of core.new) }
-    ensures seated { is_some (receiver_data channel.now core.old.plain) ≡ true → MeetsInRoom (manager_of core.old) (set_bound channel.now bound core.old.plain) (by_memory result) (manager_of core.new) }
+    ensures meets { MeetsInRoom (manager_of core.old) (set_bound channel.now bound core.old.plain) (Ok tt) (manager_of core.new) }
+    ensures told { WritesLog core.old (set_bound channel.now bound core.old.plain) (Ok tt) core.new }
 {
     if bound {
-        return bind(core, channel);
+        bind(core, channel);
+        return;
     }
     unbind(core, channel);
-    Ok(())
 }

@@ -381,19 +381,13 @@ impl<D: Disk> Manager<D> {
         mq_agents::leave(&mut self.core, channel);
     }
 
-    /// Whether a receiver is bound from now on. Of one that has hardened something it takes no memory, nor where a bond ends.
-    ///
-    /// # Errors
-    ///
-    /// No memory, of a channel of which nothing is kept; nothing has changed.
-    pub fn set_bound(&mut self, channel: &ChName, bound: bool) -> Result<(), NoMemory>
+    /// Whether a receiver is bound from now on; one that has hardened nothing never is. It takes no memory.
+    pub fn set_bound(&mut self, channel: &ChName, bound: bool)
         requires up { IsUp self.old.plain }
-        ensures meets { MeetsOrWants (manager_of self.old) (set_bound channel.now bound self.old.plain) (by_memory result) (manager_of self.new) }
-        ensures room { bound ≡ false → MeetsInRoom (manager_of self.old) (set_bound channel.now bound self.old.plain) (by_memory result) (manager_of self.new) }
-        ensures seated { is_some (receiver_data channel.now self.old.plain) ≡ true → MeetsInRoom (manager_of self.old) (set_bound channel.now bound self.old.plain) (by_memory result) (manager_of self.new) }
-        ensures told { WritesLog self.old (set_bound channel.now bound self.old.plain) (by_memory result) self.new }
+        ensures meets { MeetsInRoom (manager_of self.old) (set_bound channel.now bound self.old.plain) (Ok tt) (manager_of self.new) }
+        ensures told { WritesLog self.old (set_bound channel.now bound self.old.plain) (Ok tt) self.new }
     {
-        mq_agents::set_bound(&mut self.core, channel, bound)
+        mq_agents::set_bound(&mut self.core, channel, bound);
     }
 
     /// The expired free rows of the queue that a sender has seized leave it, behind one forced record where one of them lasts.

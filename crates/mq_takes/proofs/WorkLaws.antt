@@ -1,11 +1,9 @@
 -- A receiver's turns that work at its manager.
-use Rattle.std.proofs.Common.{◌≡◌, ℕ, ◌+◌, max, refl, sym, ap, subst, ◌∙◌, List, [], ◌∷◌, ◌++◌, true, false, cond}
-use Rattle.std.specs.Prelude.{Bool, Option, Some, None, Ok, Err, is_some}
-use Rattle.std.specs.Str.{bytes_eq}
+use Rattle.std.proofs.Common.{◌≡◌, ℕ, ◌+◌, max, refl, sym, ap, subst, ◌∙◌, List, [], ◌++◌, true, false}
+use Rattle.std.specs.Prelude.{Bool, Option, Some, None, Ok, Err}
 use Rattle.mq_base.specs.declared.want.NoMemory.{NoMemory as Want}
 use Rattle.mq_cable.specs.declared.item.Item.{Item}
 use Rattle.mq_cable.specs.Offers.{Offering}
-use Rattle.mq_calls.specs.declared.agents.Note.TheVariants as notes
 use Rattle.mq_calls.specs.declared.choices.Choice.{Choice}
 use Rattle.mq_calls.specs.declared.choices.Choice.TheVariants.{Runs, NoMemory, Stopped}
 use Rattle.mq_frame.specs.declared.frame.Seen.TheVariants as items
@@ -14,11 +12,9 @@ use Rattle.mq_history.specs.declared.calls.Call.TheVariants as calls
 use Rattle.mq_receiver.specs.Table.{receiver_next}
 use Rattle.mq_receiver.specs.declared.turns.ReceiverDoes.TheVariants as does
 use Rattle.mq_receiver.specs.declared.turns.ReceiverOut.TheVariants as outs
-use Rattle.mq_calls.specs.Words.{MeetsOrWants, ReceiverData, comes_before, receiver_data, receiver_in, receiver_or, set_receiver}
-use Rattle.mq_calls.specs.declared.state.ReceiverSide.{ReceiverSide}
-use Rattle.mq_law_manager.proofs.Lists.{name_self}
+use Rattle.mq_calls.specs.Words.{MeetsOrWants}
 use Rattle.mq_calls.specs.Meeting.Wants.{Anywhere}
-use Rattle.mq_spec_manager.specs.Agents.{IsUp, harden, set_bound}
+use Rattle.mq_spec_manager.specs.Agents.{IsUp, set_bound}
 use Rattle.mq_spec_node.specs.Terms.{Did, Message, Part, Plain, Seen}
 use Rattle.mq_spec_node.specs.Words.{Own, ReceiverEnd, bind_parts, close_parts, deed_of, is_receiver_defined, parts_of, turned, with_end}
 use Rattle.mq_spec_node.specs.Node.ChannelEnd.{Receives}
@@ -63,33 +59,6 @@ pub up_ran : (choice : Choice) (p : Plain) → (choice ≡ Runs → IsUp p) → 
 up_ran Runs p f h = f refl
 up_ran NoMemory p f h = absurd cc
 up_ran (Stopped by n left) p f h = absurd cc
-
-pub there_ran : (choice : Choice) (o : Option ReceiverData) → (choice ≡ Runs → is_some o ≡ true) → has_run choice ≡ true → is_some o ≡ true
-there_ran Runs o f h = f refl
-there_ran NoMemory o f h = absurd cc
-there_ran (Stopped by n left) o f h = absurd cc
-
--- a receiver that is set is there
-set_there : (side : ReceiverSide) (rs : List ReceiverSide) → is_some (receiver_in side.channel (set_receiver side rs)) ≡ true
-set_there side [] = ap (λ (b : Bool). is_some (cond b (Some side.hardened) None)) (name_self side.channel)
-set_there side (r ∷ rs) = by (bytes_eq side.channel r.channel) (comes_before side.channel r.channel) refl (set_there side rs)
-  where
-    first : (xs : List ReceiverSide) → is_some (receiver_in side.channel (side ∷ xs)) ≡ true
-    first xs = ap (λ (b : Bool). is_some (cond b (Some side.hardened) (receiver_in side.channel xs))) (name_self side.channel)
-
-    by : (t f : Bool) → bytes_eq side.channel r.channel ≡ t → is_some (receiver_in side.channel (set_receiver side rs)) ≡ true → is_some (receiver_in side.channel (cond t (side ∷ rs) (cond f (side ∷ r ∷ rs) (r ∷ set_receiver side rs)))) ≡ true
-    by true f e rest = first rs
-    by false true e rest = first (r ∷ rs)
-    by false false e rest = ap (λ (b : Bool). is_some (cond b (Some r.hardened) (receiver_in side.channel (set_receiver side rs)))) e ∙ rest
-
--- what is hardened as bound is there
-pub there_kept : (channel partner : List ℕ) (session last : ℕ) (choice : Choice) (delta : List Did) (old new : CoreValue) → Made (parts_of (harden channel (notes.Bound partner session last) old.plain)) choice delta old new
-    → choice ≡ Runs → is_some (receiver_data channel new.plain) ≡ true
-there_kept channel partner session last Runs delta old new m r =
-    let side : ReceiverSide = record { channel = channel; hardened = record (receiver_or (receiver_data channel old.plain)) { partner = partner; session = session; closed = false; last = last } } in
-    ap (λ (p : Plain). is_some (receiver_data channel p)) m.plain ∙ set_there side old.plain.channels.receivers
-there_kept channel partner session last NoMemory delta old new m r = absurd cc
-there_kept channel partner session last (Stopped by n left) delta old new m r = absurd cc
 
 -- The event of such a turn.
 pub worked_so : (s p t : NodeState) (e last : ReceiverEnd) (cable : ℕ) (parts : List Part) (received : List Message) (seen : Seen) (front : Option Item) (sight stamp : ℕ) (choice : Choice) (delta : List Did) (reads writes : List Item → Type 0) (o : Offering)

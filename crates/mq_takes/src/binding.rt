@@ -1,5 +1,5 @@
 //! A session that is bound at its manager.
-ghost use Rattle.std.specs.Prelude.{◌≡◌, ◌<◌, ◌≤◌, ◌^◌, ◌++◌, Ok, is_some, true};
+ghost use Rattle.std.specs.Prelude.{◌≡◌, ◌<◌, ◌≤◌, ◌^◌, ◌++◌, Ok};
 ghost use Rattle.mq_calls.specs.declared.agents.Note.TheVariants as notes;
 ghost use Rattle.mq_takes.specs.Words as words;
 ghost use Rattle.mq_calls.specs.declared.choices.Choice.TheVariants as choices;
@@ -24,30 +24,24 @@ use mq_wires::Sight;
 
 fn bind_in<D: Disk>(core: &mut Core<D>, channel: &ChName)
     requires up { words.IsUp core.old.plain }
-    requires there { is_some (words.receiver_data channel.now core.old.plain) ≡ true }
     ensures meets { words.MeetsOrWants (words.manager_of core.old) (words.set_bound channel.now true core.old.plain) (Ok tt) (words.manager_of core.new) }
     ensures told { words.WritesLog core.old (words.set_bound channel.now true core.old.plain) (Ok tt) core.new }
 {
-    match mq_agents::bind(core, channel) {
-        Ok(()) => {}
-        Err(NoMemory) => unreachable!(),
-    }
+    mq_agents::bind(core, channel);
 }
 
-/// A receiver that has hardened something is bound from now on. It takes no memory.
+/// A receiver is bound from now on. It takes no memory.
 fn bind<D: Disk>(manager: &mut Manager<D>, channel: &ChName)
     requires up { words.IsUp manager.old.plain }
-    requires there { is_some (words.receiver_data channel.now manager.old.plain) ≡ true }
     ensures { words.MeetsOrWants (words.manager_of manager.old) (words.set_bound channel.now true manager.old.plain) (Ok tt) (words.manager_of manager.new) }
 {
     bind_in(&mut manager.core, channel);
 }
 
 /// So where all before was done.
-#[tactic(auto, using(crate::proofs::WorkLaws::bound_done, crate::proofs::WorkLaws::bound_undone, crate::proofs::WorkLaws::up_ran, crate::proofs::WorkLaws::there_ran))]
+#[tactic(auto, using(crate::proofs::WorkLaws::bound_done, crate::proofs::WorkLaws::bound_undone, crate::proofs::WorkLaws::up_ran))]
 fn bind_if<D: Disk>(manager: &mut Manager<D>, channel: &ChName, told: &Told)
     requires up { told.now.choice ≡ choices.Runs → words.IsUp manager.old.plain }
-    requires there { told.now.choice ≡ choices.Runs → is_some (words.receiver_data channel.now manager.old.plain) ≡ true }
     ensures { words.IsBehind (words.bound_if told.now.choice channel.now true manager.old.plain) manager.old manager.new }
 {
     if has_run(told) {
@@ -60,7 +54,7 @@ fn bind_if<D: Disk>(manager: &mut Manager<D>, channel: &ChName, told: &Told)
 /// # Errors
 ///
 /// No memory; nothing has changed. So it is too where the manager has not what the end knows of it, which never comes.
-#[tactic(auto, using(mq_turns::proofs::RunLaws::stays_up, mq_turns::proofs::AgentLaws::as_was, crate::proofs::WorkLaws::there_kept))]
+#[tactic(auto, using(mq_turns::proofs::RunLaws::stays_up, mq_turns::proofs::AgentLaws::as_was))]
 fn harden_bound<D: Disk>(
     manager: &mut Manager<D>,
     channel: &ChName,
