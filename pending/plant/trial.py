@@ -1,0 +1,98 @@
+#!/usr/bin/env python3
+"""trial CRATE [--batch N] [--seconds N] [--margin] [--skip N] [--first N], at the top of a clone: judges the bodies of pending/plant/plans/CRATE.txt over built libraries, as rt plant does
+(the same plants, tactics and verdicts; its code is used). Plants that don't compile are dropped and said. Results go to pending/plant/runs/CRATE.txt as they come.
+The crate is not proved anew. A batch that runs out of --seconds is halved; what was judged stands. Work is kept in .q/trial-CRATE."""
+import sys,os,types,importlib.machinery,re,time,shutil,subprocess,collections
+sys.dont_write_bytecode=True
+sys.path.insert(0,'/work/h/tools')
+from qlib import Keys
+KIT='/opt/rattle'; LIBS='/work/h/libs'; top=os.getcwd()
+crate=sys.argv[1]; a=sys.argv[2:]
+def opt(n,d): return int(a[a.index(n)+1]) if n in a else d
+BATCH,SECONDS,SKIP,FIRST=opt('--batch',12),opt('--seconds',420),opt('--skip',0),opt('--first',10**6)
+k=Keys(top); bs=k.below(crate)
+built={b:f'{LIBS}/{b}/{k.key(b)}' for b in bs}
+missing=[b for b in bs if not os.path.isdir(built[b])]
+if missing: sys.exit('not built: '+' '.join(missing))
+def load(n):
+    m=types.ModuleType(n); m.__file__=f'{KIT}/bin/{n}'; sys.modules[n]=m
+    importlib.machinery.SourceFileLoader(n,m.__file__).exec_module(m); return m
+P=load('rt-plant'); B=P.bodies
+ofkit=list(dict.fromkeys(['std',*[d for d in k.deps[crate] if d not in k.deps]]))
+work=f'{top}/.q/trial-{crate}'; os.makedirs(work,exist_ok=True)
+for part in ('src','specs','proofs'):
+    shutil.rmtree(f'{work}/{part}',ignore_errors=True)
+    if os.path.isdir(f'{top}/crates/{crate}/{part}'): shutil.copytree(f'{top}/crates/{crate}/{part}',f'{work}/{part}')
+os.makedirs(f'{work}/out/incremental',exist_ok=True)
+s=B.Source(f'{top}/crates/{crate}'); s.read('src/lib.rt'); s.read_specs()
+class Fake: pass
+copy=P.Copy.__new__(P.Copy); copy.source,copy.folder,copy.lines=s,work,{}
+by={(f.file,f.shown.split(' ',1)[1]):f for f in s.functions}
+stem='_plant'
+while any(stem.encode() in it for it in s.data.values()): stem+='_'
+P.Plant.stem=stem
+plants=[]
+for i,l in enumerate(open(f'{top}/pending/plant/plans/{crate}.txt')):
+    if l.startswith('#') or not l.strip(): continue
+    where,body=l.rstrip('\n').split('\t',1)
+    file,name=where.split(' ',1)
+    f=by.get((file.split(':')[0],name))
+    if not f: print('no such function:',where); continue
+    plants.append(P.Plant(f,B.Body(body),i))
+plants=plants[SKIP:SKIP+FIRST]
+os.makedirs(f'{top}/pending/plant/runs',exist_ok=True)
+out=open(f'{top}/pending/plant/runs/{crate}.txt','a')
+def say(it):
+    line=f'{it.kind:<10}  {it.f.shown}: {{ {it.body} }}'.replace('{  }','{ }')+f'  ({it.why})'*bool(it.why)
+    print(line,file=out,flush=True); print(line[:300],flush=True)
+def words(names):
+    w=['--crate-name',crate,'src/lib.rt']
+    for x in ofkit: w+=['--extern',f'{x}={KIT}/rlibs/{x}.rlib']
+    w+=['-L',f'dependency={KIT}/rlibs']
+    for b in bs:
+        if b in k.deps[crate]: w+=['--extern',f'{b}={built[b]}/{b}.rlib']
+        w+=['-L',f'dependency={built[b]}']
+    w+=['--antt-project',f'{KIT}/rattle/logic/antt-project.json','--logic-built',f'{KIT}/logic_built','--jobs','1','--links',f'{crate}=','--incremental','out/incremental','--progress']
+    w+=['--margin']*('--margin' in a)
+    for n in names: w+=['--only',n]
+    return w
+def check(batch):
+    copy.write(batch)
+    t=time.time()
+    try: r=subprocess.run(['/work/h/tools/runq','timeout',str(SECONDS),'/usr/bin/time','-f','user %U mem %M KB',f'{KIT}/bin/rattle','check',*words([it.name for it in batch])],cwd=work,stdout=subprocess.PIPE,stderr=subprocess.STDOUT,stdin=subprocess.DEVNULL,errors='replace')
+    except KeyboardInterrupt: raise
+    said=r.stdout
+    open(f'{work}/last.txt','w').write(said)
+    m=re.search(r'user (\S+) mem (\d+)',said)
+    print(f'  [{time.strftime("%H:%M:%S")} {len(batch)} bodies, {time.time()-t:.0f} s, {m.group(0) if m else "killed"}]',flush=True)
+    return said
+left=[plants[i:i+BATCH] for i in range(0,len(plants),BATCH)]
+count=collections.Counter()
+while left:
+    batch=left.pop(0)
+    said=check(batch)
+    if re.search(r'(?m)^(only=|rattle: no verdict)',said):
+        P.read(batch,said)
+        for it in batch: say(it); count[it.kind]+=1
+        continue
+    wrong={copy.lines.get((f,int(n))) for f,n in P.ERROR.findall(said)}; wrong.discard(None)
+    if re.search(r'error[\[:]',said) and wrong:
+        for it in wrong:
+            it.kind='not-source'
+            m=re.search(rf'(?m)^(?:\./)?{re.escape(it.f.file)}:\d+:\d+: (error.*)$',said); it.why=m.group(1)[:120] if m else ''
+            say(it); count[it.kind]+=1
+        rest=[it for it in batch if it not in wrong]
+        if rest:
+            if left and len(rest)<BATCH//2: left[0]=rest+left[0]
+            else: left.insert(0,rest)
+        continue
+    if re.search(r'error[\[:]',said) and 'checked ' not in said:
+        print(said[-3000:],flush=True)
+    if len(batch)>1:
+        done={m for m in re.findall(r'(?m)^checked (\S+),',said)}
+        print('  not ended; ended with:',' '.join(sorted(done)),flush=True)
+        h=len(batch)//2; left[:0]=[batch[:h],batch[h:]]
+    else:
+        batch[0].kind,batch[0].why='not-judged','the check did not end'
+        say(batch[0]); count['not-judged']+=1
+print(f'== {crate}: '+' '.join(f'{n}={count[n]}' for n in P.KINDS if count[n]),flush=True)
