@@ -37,6 +37,10 @@ for i,l in enumerate(open(f'{top}/pending/plant/plans/{crate}.txt')):
     where,body=l.rstrip('\n').split('\t',1)
     file,name=where.split(' ',1)
     f=by.get((file.split(':')[0],name))
+    # (a body that calls the crate's own functions has them all proved in the same check)
+    if 'self::' in body or 'Self::' in body:
+        if '--over' not in a: continue
+    elif '--over' in a: continue
     if not f: print('no such function:',where); continue
     plants.append(P.Plant(f,B.Body(body),i))
 plants=plants[SKIP:SKIP+FIRST]

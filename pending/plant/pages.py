@@ -1,0 +1,24 @@
+#!/usr/bin/env python3
+"""pages: at the top of a clone, puts into the pages of the manager's crates what rt plant's bodies came to (in place of "`rt plant` itself has not run over this crate")."""
+import re
+S={
+# crate: (paragraph's first words, new text)
+'mq_fill':"Each public function's clauses were read for bodies beside the real one that they let through: none, each is one equation. `rt plant`'s bodies for the two that say it in parts (`make_draft`, `replies_to`) were all refused, 4 of 4.",
+'mq_trigger':"Each public function's clauses were read for bodies beside the real one that they let through: only want of memory (`trigger_message`). Of four bodies of `rt plant`'s kind for `is_triggered` and `trigger_message` two were refused, and two could not be judged (a limit of the tactics).",
+'mq_scan':"Each public function's clauses were read for bodies beside the real one that they let through: only want of memory. Three bodies of `rt plant`'s kind for `scan` (that it finds nothing, or looks in another way than was asked) were all refused.",
+'mq_handles':"Each public function's clauses were read for bodies beside the real one that they let through: only want of memory, where a call may take memory; all else is equations. `rt plant`'s bodies for the 16 that say it in parts, but for want of memory, were all refused, 24 of 24.",
+}
+def wrapped(t,w=140):
+    out=[]; line=''
+    for word in t.split():
+        if len(line)+1+len(word)>w and line: out.append(line); line=word
+        else: line=(line+' '+word).strip()
+    return '\n'.join(out+[line])
+for c,t in S.items():
+    p=f'crates/{c}/README.md'; s=open(p).read(); t=wrapped(t)
+    if t in s: continue
+    m=re.search(r"(?ms)^(- |)Each public function's clauses.*?(?=\n\n|\n- |\Z)",s)
+    if not m: print(c,'no paragraph'); continue
+    new=t if not m.group(1) else '- '+t.replace('\n','\n  ')
+    s=s[:m.start()]+new+s[m.end():]
+    open(p,'w').write(s); print(c)
