@@ -60,13 +60,31 @@ def words(names):
     w+=['--margin']*('--margin' in a)
     for n in names: w+=['--only',n]
     return w
+def children(pid):
+    # pid and all that it started
+    up={}
+    for q in os.listdir('/proc'):
+        if q.isdigit():
+            try: up.setdefault(int(open(f'/proc/{q}/stat').read().rsplit(')',1)[1].split()[1]),[]).append(int(q))
+            except OSError: pass
+    found=[pid]
+    for q in found: found+=up.get(q,[])
+    return found[::-1]
 def check(batch):
     copy.write(batch)
     t=time.time()
-    try: r=subprocess.run(['/work/h/tools/runq','timeout',str(SECONDS),'/usr/bin/time','-f','user %U mem %M KB',f'{KIT}/bin/rattle','check',*words([it.name for it in batch])],cwd=work,stdout=subprocess.PIPE,stderr=subprocess.STDOUT,stdin=subprocess.DEVNULL,errors='replace')
-    except KeyboardInterrupt: raise
-    said=r.stdout
-    open(f'{work}/last.txt','w').write(said)
+    # (behind the verdicts rattle writes offers of proof files, which can take longer than the check: it is ended once each body has its line)
+    with open(f'{work}/last.txt','w') as o:
+        p=subprocess.Popen(['/work/h/tools/runq','timeout',str(SECONDS),'/usr/bin/time','-f','user %U mem %M KB',f'{KIT}/bin/rattle','check',*words([it.name for it in batch])],cwd=work,stdout=o,stderr=subprocess.STDOUT,stdin=subprocess.DEVNULL,start_new_session=True)
+        while p.poll() is None:
+            time.sleep(2)
+            now=open(f'{work}/last.txt',errors='replace').read()
+            if all(re.search(rf'(?m)^fn \S+::{it.name}: .*\n',now) for it in batch):
+                for q in children(p.pid):
+                    try: os.kill(q,9)
+                    except ProcessLookupError: pass
+                p.wait(); open(f'{work}/last.txt','a').write('\nonly=ended by trial.py\n'); break
+    said=open(f'{work}/last.txt',errors='replace').read()
     m=re.search(r'user (\S+) mem (\d+)',said)
     print(f'  [{time.strftime("%H:%M:%S")} {len(batch)} bodies, {time.time()-t:.0f} s, {m.group(0) if m else "killed"}]',flush=True)
     return said
