@@ -17,8 +17,8 @@ core_of-requires-clause-tied g c =
     let started = has_started c.args.built c.args.number c.args.name.now c.started_bytes-record.result c.args.log c.make_room.new.log c.append_forced.new.self c.requires.opened.fresh c.in-Ok.ensures.same c.in-Ok.ensures.aside e.appended e.ends e.later record_is long c.started_bytes-record.ensures.record in
     ties c.args.built c.args.number c.args.name.now c.args.moment c.args.log c.append_forced.new.self c.requires.read started c.requires.max c.requires.moment
 
-pub returns-in-Ok-append_forced : goal.returns-in-Ok-append_forced
-returns-in-Ok-append_forced g c =
+pub returns-in-Ok-append_forced-clause-begun : goal.returns-in-Ok-append_forced-clause-begun
+returns-in-Ok-append_forced-clause-begun g c =
     let record_is = c.started_bytes-record.ensures.bytes in
     let long = ap length record_is ∙ record_whole (started_record (given_by c.args.number c.args.name.now c.args.log.max) (c.args.built.incarnation + 1)) c.started_bytes-record.ensures.record in
     let e = c.in-Ok-append_forced.ensures in
