@@ -1,6 +1,6 @@
 //! The queue manager and its calls.
-ghost use Rattle.std.specs.Prelude.{◌≡◌, ◌≤◌, [], true, false, is_some, Ok, IfErr, MatchResult, option_copied, option_map};
-ghost use Rattle.mq_calls.specs.Words.{Meets, MeetsInRoom, is_up, receiver_data};
+ghost use Rattle.std.specs.Prelude.{◌≡◌, ◌≤◌, [], false, Ok, IfErr, MatchResult, option_copied, option_map};
+ghost use Rattle.mq_calls.specs.Words.{Meets, MeetsInRoom, is_up};
 ghost use Rattle.mq_core.specs.Values.{WritesLog, manager_of};
 ghost use Rattle.mq_calls.specs.Words.{MeetsOrWants};
 ghost use Rattle.mq_spec_manager.specs.Commands.{command};
