@@ -12,6 +12,9 @@ pub returns-in-Err-begin_built-clause-begun : goal.returns-in-Err-begin_built-cl
 returns-in-Err-begin_built-clause-begun g c =
     refused_whole g.D.Disk.tells (g.D.Disk.seen c.args.disk.inner) (g.D.Disk.faults c.args.disk.inner) c.args.max c.args.number c.args.name.now c.in-Ok.log c.in-Err-begin_built.unbegun.fault _ c.in-Ok.ensures.opened (c.in-Err-begin_built.ensures.begun (g.D.Disk.seen c.args.disk.inner))
 
+pub returns-in-Err-clause-begun : goal.returns-in-Err-clause-begun
+returns-in-Err-clause-begun g c = c.in-Err.ensures.opened (given_by c.args.number c.args.name.now c.args.max)
+
 pub returns-in-Err-clause-left : goal.returns-in-Err-clause-left
 returns-in-Err-clause-left g c t = inl (c.in-Err.ensures.left t)
 
