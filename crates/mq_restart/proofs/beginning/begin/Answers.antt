@@ -21,11 +21,11 @@ returns-in-Err-clause-left g c t = inl (c.in-Err.ensures.left t)
 pub returns-in-Err-begin_built-clause-left : goal.returns-in-Err-begin_built-clause-left
 returns-in-Err-begin_built-clause-left g c t =
     left_whole g.D.Disk.tells (g.D.Disk.seen c.args.disk.inner) (g.D.Disk.faults c.args.disk.inner) c.args.max c.args.number c.args.name.now c.in-Ok.log c.in-Err-begin_built.unbegun.fault
-        (g.D.Disk.may_leave c.args.disk.inner) (g.D.Disk.may_leave c.in-Err-begin_built.unbegun.disk.inner) c.in-Ok.ensures.opened t (c.in-Err-begin_built.ensures.left t)
+    (g.D.Disk.may_leave c.args.disk.inner) (g.D.Disk.may_leave c.in-Err-begin_built.unbegun.disk.inner) c.in-Ok.ensures.opened t (c.in-Err-begin_built.ensures.left t)
 
 pub returns-in-Err-built_of-clause-left : goal.returns-in-Err-built_of-clause-left
 returns-in-Err-built_of-clause-left g c t =
     let h = c.handed_back in
     left_whole g.D.Disk.tells (g.D.Disk.seen c.args.disk.inner) (g.D.Disk.faults c.args.disk.inner) c.args.max c.args.number c.args.name.now c.in-Ok.log h.result.fault
-        (g.D.Disk.may_leave c.args.disk.inner) (g.D.Disk.may_leave h.result.disk.inner) c.in-Ok.ensures.opened t
-        (left_standing (given_by c.args.number c.args.name.now c.in-Ok.log.max) c.in-Ok.log.bodies h.result.fault (g.D.Disk.may_leave h.result.disk.inner) c.in-Ok.log refl c.in-Ok.ensures.opened.opened.fresh.settled (h.ensures.left t))
+    (g.D.Disk.may_leave c.args.disk.inner) (g.D.Disk.may_leave h.result.disk.inner) c.in-Ok.ensures.opened t
+    (left_standing (given_by c.args.number c.args.name.now c.in-Ok.log.max) c.in-Ok.log.bodies h.result.fault (g.D.Disk.may_leave h.result.disk.inner) c.in-Ok.log refl c.in-Ok.ensures.opened.opened.fresh.settled (h.ensures.left t))

@@ -30,11 +30,11 @@ returns-in-Ok-append_forced-clause-begun g c =
 pub returns-in-Err-clause-left : goal.returns-in-Err-clause-left
 returns-in-Err-clause-left g c t =
     left_standing (given_by c.args.number c.args.name.now c.args.log.max) c.args.log.bodies c.handed_back.result.fault (g.D.Disk.may_leave c.handed_back.result.disk.inner) c.make_room.new.log
-        (ap (λ (l : LogState). l.bodies) c.in-Err.ensures.same) (ap (λ (l : LogState). l.pending) c.in-Err.ensures.same ∙ c.requires.opened.fresh.settled) (c.handed_back.ensures.left t)
+    (ap (λ (l : LogState). l.bodies) c.in-Err.ensures.same) (ap (λ (l : LogState). l.pending) c.in-Err.ensures.same ∙ c.requires.opened.fresh.settled) (c.handed_back.ensures.left t)
 
 pub returns-in-Err-append_forced-clause-left : goal.returns-in-Err-append_forced-clause-left
 returns-in-Err-append_forced-clause-left g c t =
     let h = c.handed_back-in-Err-append_forced in
     left_stopped (given_by c.args.number c.args.name.now c.args.log.max) c.args.built c.started_bytes-record.result c.in-Err-append_forced.stop h.result.fault (g.D.Disk.may_leave h.result.disk.inner)
-        c.args.log c.make_room.new.log c.append_forced.new.self c.requires.read c.in-Ok.ensures.same c.started_bytes-record.ensures.bytes c.in-Err-append_forced.ensures.appended
-        (h.ensures.fault ∙ c.stop_fault-fault.ensures) (h.ensures.left t)
+    c.args.log c.make_room.new.log c.append_forced.new.self c.requires.read c.in-Ok.ensures.same c.started_bytes-record.ensures.bytes c.in-Err-append_forced.ensures.appended
+    (h.ensures.fault ∙ c.stop_fault-fault.ensures) (h.ensures.left t)
