@@ -1,18 +1,16 @@
 -- What a crash may leave of the disk of a manager that has not begun.
-use Rattle.std.proofs.Common.{◌≡◌, ℕ, ◌+◌, ◌<◌, ◌^◌, List, [], ◌∷◌, ◌++◌, refl, ap, sym, subst, ◌∙◌, inl, inr}
-use Rattle.std.specs.Prelude.{Option, Some, None, Ok, Err}
+use Rattle.std.proofs.Common.{◌≡◌, ℕ, ◌+◌, List, ap, subst, ◌∙◌, inr}
+use Rattle.std.specs.Prelude.{Option, Some, None, Err}
 use Rattle.mq_disk.specs.declared.cutter.Stop.{Stop}
 use Rattle.mq_calls.specs.declared.commands.BeginFault.{BeginFault}
 use Rattle.mq_calls.specs.declared.commands.BeginFault.TheVariants as faults
-use Rattle.mq_log.specs.Bodies.{IsLog}
-use Rattle.mq_log.specs.Open.{Reads}
 use Rattle.mq_log.specs.State.{LogState, Appended, IsLogOf}
 use Rattle.mq_record.specs.Records.{record_bytes}
 use Rattle.mq_calls.specs.State.{Given}
 use Rattle.mq_spec_manager.specs.Stops.{started_record}
 use Rattle.mq_spec_log.specs.Applies.Start.{First}
 use Rattle.mq_rebuild.specs.declared.building.Built.{Built}
-use Rattle.mq_restart.specs.Begun.{given_by, HasOpened, IsReadFrom, IsStartOf, LeavesLog, LeavesAsWas}
+use Rattle.mq_restart.specs.Begun.{given_by, HasOpened, IsReadFrom, LeavesLog, LeavesAsWas}
 
 -- no write was stopped
 pub left_standing : (g : Given) (bodies : List (List ℕ)) (fault : BeginFault) (leaves : List ℕ → Type 0) (l : LogState) → l.bodies ≡ bodies → l.pending ≡ None → ((c : List ℕ) → leaves c → IsLogOf l.bodies l.pending c) → LeavesLog g bodies fault leaves
