@@ -1,5 +1,5 @@
 -- A receiver that is bound, or is not any more.
-use Rattle.std.proofs.Common.{◌≡◌, ℕ, true, false, List, refl, ap, sym, subst, ◌∙◌}
+use Rattle.std.proofs.Common.{◌≡◌, ℕ, true, List, refl, ap, sym, subst, ◌∙◌}
 use Rattle.std.specs.Prelude.{Option, Some, None, find, filter, is_some, not, option_map}
 use Rattle.std.specs.List.{AllByRecursion}
 use Rattle.std.specs.Str.{bytes_eq}
@@ -60,11 +60,3 @@ seat_in seats channel rs (Some r) h e some = seat_of_found seats channel r rs h 
 pub is_seated : (channel : List ℕ) (e : ChannelEnds) (spare : ℕ) → EndsReady e spare → is_some (receiver_in channel e.receivers) ≡ true → has_seat channel e.bound.seats ≡ true
 is_seated channel e spare w some =
     seat_in e.bound.seats channel e.receivers (find (λ (r : ReceiverSide). bytes_eq channel r.channel) e.receivers) w.seats refl (ap (λ (o : Option ReceiverData). is_some o) (sym (receiver_found channel e.receivers)) ∙ some)
-
--- one that has hardened nothing stays as it is
-pub bound_none : (channel : List ℕ) (x y : PartsValue) → y ≡ x → receiver_in channel x.ends.receivers ≡ None → IsBoundNow channel x y
-bound_none channel x y e none = subst (λ (z : PartsValue). IsBoundNow channel x z) (sym e) (record {
-    same = refl;
-    bound = sym (ap (λ (o : Option ReceiverData). noted_if (is_some o) channel x.ends.bound.bound) none);
-    seats = λ name had. had;
-  })

@@ -1,6 +1,6 @@
 //! The queue manager and its calls.
-ghost use Rattle.std.specs.Prelude.{◌≡◌, ◌≤◌, [], true, false, is_some, Ok, MatchResult, option_copied, option_map};
-ghost use Rattle.mq_calls.specs.Words.{Meets, MeetsInRoom, is_up, receiver_data};
+ghost use Rattle.std.specs.Prelude.{◌≡◌, ◌≤◌, [], false, Ok, IfErr, MatchResult, option_copied, option_map};
+ghost use Rattle.mq_calls.specs.Words.{Meets, MeetsInRoom, is_up};
 ghost use Rattle.mq_core.specs.Values.{WritesLog, manager_of};
 ghost use Rattle.mq_calls.specs.Words.{MeetsOrWants};
 ghost use Rattle.mq_spec_manager.specs.Commands.{command};
@@ -10,7 +10,7 @@ ghost use Rattle.mq_spec_manager.specs.Agents.{IsUp, IsSenderHere, HasSeized, Ha
 ghost use Rattle.mq_agents.specs.Ends.{by_agent, by_memory, by_seize, by_prepare, by_place, kept_of, place_and_message};
 ghost use Rattle.mq_steer.specs.Quiet.{quietly, Comes};
 ghost use Rattle.mq_spec_manager.specs.Words.{last_moment};
-ghost use Rattle.mq_restart.specs.Begun.{given_by, HasBegun, HasNotBegun};
+ghost use Rattle.mq_restart.specs.Begun.{given_by, HasBegun, HasNotBegun, LeavesAsWas};
 ghost use Rattle.mq_law_image.specs.Values.{IsCommandText};
 ghost use Rattle.mq_restart.specs.Returned.{Passes, Stayed};
 ghost use Rattle.mq_restarts.specs.Backs.{IsBack};
@@ -68,7 +68,8 @@ impl<D: Disk> Manager<D> {
     /// # Errors
     ///
     /// `Disk` only where the disk's count of faults rose; `BadLog`, where the disk tells its bytes, only where these are no log
-    /// of this manager, with the place of the gate at fault; `NoMemory`. The disk is handed back.
+    /// of this manager, with the place of the gate at fault; `NoMemory`. The disk is handed back: what a crash may leave of it is what
+    /// it might have left before, or the log that stood there, with the Started record behind it only where its write was stopped.
     pub fn begin(
         alloc: Global,
         number: u8,
@@ -83,7 +84,8 @@ impl<D: Disk> Manager<D> {
         requires moment { moment ≤ last_moment }
         requires armed { disk.armed ≡ 0 }
         requires passes { disk.stopped ≡ false }
-        ensures { MatchResult result (λ m. HasBegun D.tells (D.seen disk.inner) (D.faults disk.inner) (given_by number name.now max) moment m) (λ e. HasNotBegun D.tells (D.seen disk.inner) (given_by number name.now max) (D.faults disk.inner) e.fault (D.faults e.disk.inner)) }
+        ensures begun { MatchResult result (λ m. HasBegun D.tells (D.seen disk.inner) (D.faults disk.inner) (given_by number name.now max) moment m) (λ e. HasNotBegun D.tells (D.seen disk.inner) (given_by number name.now max) (D.faults disk.inner) e.fault (D.faults e.disk.inner)) }
+        ensures left { D.tells → IfErr result (λ e. LeavesAsWas (D.may_leave disk.inner) (D.seen disk.inner) (given_by number name.now max) e.fault (D.may_leave e.disk.inner)) }
     {
         match mq_restart::begin(alloc, number, name, disk, max, moment) {
             Ok(core) => Ok(Manager {

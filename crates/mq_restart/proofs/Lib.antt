@@ -12,6 +12,7 @@ pub mod SeenLaws
 pub mod AsideLaws
 pub mod TieLaws
 pub mod OpenLaws
+pub mod LeftLaws
 pub mod BeginLaws
 pub mod RestartLaws
 pub mod RaiseLaws

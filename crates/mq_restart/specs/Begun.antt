@@ -1,10 +1,11 @@
 -- A manager that comes up from the image of its log, and its first start.
-use Rattle.std.specs.Prelude.{◌≡◌, ◌⊎◌, ℕ, ◌+◌, ◌≤◌, List, [], ◌∷◌, ◌++◌, true, None, Ok, Err}
+use Rattle.std.specs.Prelude.{◌≡◌, ◌⊎◌, ℕ, ◌+◌, ◌≤◌, List, [], ◌∷◌, ◌++◌, true, Option, Some, None, Ok, Err}
 use Rattle.std.specs.List.{AllByRecursion}
 use Rattle.mq_base.specs.Outside.{Rose}
 use Rattle.mq_frame.specs.Reading.{IsBytes}
 use Rattle.mq_log.specs.Bodies.{IsLog, IsNoLog}
-use Rattle.mq_log.specs.State.{LogState, log_length}
+use Rattle.mq_log.specs.Open.{Reads}
+use Rattle.mq_log.specs.State.{LogState, log_length, IsLogOf}
 use Rattle.mq_log.specs.declared.open.StartFault.{StartFault}
 use Rattle.mq_log.specs.declared.open.StartFault.TheVariants as starts
 use Rattle.mq_calls.specs.declared.commands.BeginFault.{BeginFault}
@@ -139,6 +140,21 @@ pub record HasNotBegun (tells : Type 0) (seen : List ℕ) (g : Given) (old : ℕ
   pub bad : tells → IsBadOf g seen fault
   pub later : old ≤ new
   pub rose : fault ≡ faults.Disk → Rose old new
+
+-- the record whose forced write was stopped, if one was: the Started record of what this log tells
+abbrev pub IsStartOf : Given → List (List ℕ) → BeginFault → Option (List ℕ) → Type 0
+IsStartOf g bodies fault None = Unit {0}
+IsStartOf g bodies fault (Some body) = (fault ≡ faults.Disk) × (told : Image) × (image g First bodies ≡ Ok told) × (body ≡ record_bytes (started_record g (told.incarnation + 1)))
+
+-- a crash may leave this log, or, where the write of the Started record was stopped, this log with that record behind it
+pub record LeavesLog (g : Given) (bodies : List (List ℕ)) (fault : BeginFault) (leaves : List ℕ → Type 0) : Type 0 where
+  pub pending : Option (List ℕ)
+  pub start : IsStartOf g bodies fault pending
+  pub left : (c : List ℕ) → leaves c → IsLogOf bodies pending c
+
+-- what a crash may leave of the disk of a manager that has not begun: what it might have left before, or the log that stood there
+abbrev pub LeavesAsWas : (List ℕ → Type 0) → List ℕ → Given → BeginFault → (List ℕ → Type 0) → Type 0
+LeavesAsWas before seen g fault after = Reads before after ⊎ ((bodies : List (List ℕ)) × IsLog seen bodies × LeavesLog g bodies fault after)
 
 abbrev pub recovered_fault : RecoverFault → BeginFault
 recovered_fault (BadRecord place) = faults.BadLog place

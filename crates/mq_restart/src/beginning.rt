@@ -1,10 +1,12 @@
 //! A manager's first start.
-ghost use Rattle.std.specs.Prelude.{◌≡◌, ◌+◌, ◌^◌, ◌<◌, ◌≤◌, ℕ, List, false, MatchResult};
+ghost use Rattle.std.specs.Prelude.{◌≡◌, ◌+◌, ◌^◌, ◌<◌, ◌≤◌, ℕ, List, false, IfErr, MatchResult};
+ghost use Rattle.mq_log.specs.Open.{Reads};
+ghost use Rattle.mq_log.specs.State.{IsLogOf};
 ghost use Rattle.mq_spec_manager.specs.Words.{last_moment};
 ghost use Rattle.mq_calls.specs.declared.commands.BeginFault.TheVariants as faults;
 ghost use Rattle.mq_calls.specs.State.{Given};
 ghost use Rattle.mq_spec_log.specs.Applies.Start.{First};
-ghost use Rattle.mq_restart.specs.Begun.{given_by, begin_fault, recovered_fault, IsOpened, HasOpened, BeginsFrom, IsReadFrom, HasBegun, HasNotBegun};
+ghost use Rattle.mq_restart.specs.Begun.{given_by, begin_fault, recovered_fault, IsOpened, HasOpened, BeginsFrom, IsReadFrom, HasBegun, HasNotBegun, LeavesLog, LeavesAsWas};
 
 use crate::aside::make_room;
 use crate::images::built_of;
@@ -62,6 +64,7 @@ fn recover_fault(fault: RecoverFault) -> BeginFault
 fn handed_back<D: Disk>(fault: BeginFault, log: Log<D>) -> Unbegun<D>
     ensures fault { result.fault ≡ fault }
     ensures faults { D.faults result.disk.inner ≡ log.faults }
+    ensures left { D.tells → (c : List ℕ) → D.may_leave result.disk.inner c → IsLogOf log.bodies log.pending c }
 {
     Unbegun {
         fault,
@@ -73,7 +76,8 @@ fn handed_back<D: Disk>(fault: BeginFault, log: Log<D>) -> Unbegun<D>
 fn opened<D: Disk>(alloc: Global, disk: Cutter<D>, max: u64) -> Result<Log<D>, Unbegun<D>>
     requires armed { disk.armed ≡ 0 }
     requires passes { disk.stopped ≡ false }
-    ensures { MatchResult result (λ log. HasOpened D.tells (D.seen disk.inner) (D.faults disk.inner) max log) (λ e. (g : Given) → HasNotBegun D.tells (D.seen disk.inner) g (D.faults disk.inner) e.fault (D.faults e.disk.inner)) }
+    ensures opened { MatchResult result (λ log. HasOpened D.tells (D.seen disk.inner) (D.faults disk.inner) max log) (λ e. (g : Given) → HasNotBegun D.tells (D.seen disk.inner) g (D.faults disk.inner) e.fault (D.faults e.disk.inner)) }
+    ensures left { D.tells → IfErr result (λ e. Reads (D.may_leave disk.inner) (D.may_leave e.disk.inner)) }
 {
     match Log::start(alloc, disk, max) {
         Ok(log) => Ok(log),
@@ -100,7 +104,8 @@ fn begin_built<D: Disk>(
     requires max { log.max < 2 ^ 32 }
     requires moment { moment ≤ last_moment }
     requires read { IsReadFrom (given_by number name.now log.max) First log.bodies built }
-    ensures { MatchResult result (λ core. BeginsFrom D.tells log (given_by number name.now log.max) moment core) (λ e. (seen : List ℕ) → HasNotBegun D.tells seen (given_by number name.now log.max) log.faults e.fault (D.faults e.disk.inner)) }
+    ensures begun { MatchResult result (λ core. BeginsFrom D.tells log (given_by number name.now log.max) moment core) (λ e. (seen : List ℕ) → HasNotBegun D.tells seen (given_by number name.now log.max) log.faults e.fault (D.faults e.disk.inner)) }
+    ensures left { D.tells → IfErr result (λ e. LeavesLog (given_by number name.now log.max) log.bodies e.fault (D.may_leave e.disk.inner)) }
 {
     match make_room(&mut log, &built) {
         Ok(()) => {}
@@ -122,7 +127,8 @@ fn begin_built<D: Disk>(
 /// # Errors
 ///
 /// `Disk` only where the disk's count of faults rose; `BadLog`, where the disk tells its bytes, only where these are no log
-/// of this manager, with the place of the gate at fault; `NoMemory`. The disk is handed back.
+/// of this manager, with the place of the gate at fault; `NoMemory`. The disk is handed back: what a crash may leave of it is what it
+/// might have left before, or the log that stood there, with the Started record behind it only where its write was stopped.
 pub fn begin<D: Disk>(
     alloc: Global,
     number: u8,
@@ -137,7 +143,8 @@ pub fn begin<D: Disk>(
     requires moment { moment ≤ last_moment }
     requires armed { disk.armed ≡ 0 }
     requires passes { disk.stopped ≡ false }
-    ensures { MatchResult result (λ core. HasBegun D.tells (D.seen disk.inner) (D.faults disk.inner) (given_by number name.now max) moment core) (λ e. HasNotBegun D.tells (D.seen disk.inner) (given_by number name.now max) (D.faults disk.inner) e.fault (D.faults e.disk.inner)) }
+    ensures begun { MatchResult result (λ core. HasBegun D.tells (D.seen disk.inner) (D.faults disk.inner) (given_by number name.now max) moment core) (λ e. HasNotBegun D.tells (D.seen disk.inner) (given_by number name.now max) (D.faults disk.inner) e.fault (D.faults e.disk.inner)) }
+    ensures left { D.tells → IfErr result (λ e. LeavesAsWas (D.may_leave disk.inner) (D.seen disk.inner) (given_by number name.now max) e.fault (D.may_leave e.disk.inner)) }
 {
     let log = match opened(alloc, disk, max) {
         Ok(log) => log,

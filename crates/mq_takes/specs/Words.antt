@@ -14,7 +14,7 @@ pub use Rattle.mq_spec_manager.specs.Agents.{CanHarden, CanReceive, IsReceiverHe
 pub use Rattle.mq_spec_node.specs.Node.{receiver_end}
 pub use Rattle.mq_spec_node.specs.Terms.{Part, Refuse, Step}
 pub use Rattle.mq_spec_node.specs.Words.{bind_parts, close_parts, is_receiver_defined, kept_kind, kept_seen, parts_of}
-pub use Rattle.mq_calls.specs.Words.{MeetsOrWants, is_up, receiver_data, set_named}
+pub use Rattle.mq_calls.specs.Words.{MeetsOrWants, is_up, receiver_data}
 pub use Rattle.mq_sync.specs.Settlement.{receiver_or}
 pub use Rattle.mq_sync.specs.Units.{Below}
 pub use Rattle.mq_takes.specs.Placing.{CommitAs, ReceivedAs}

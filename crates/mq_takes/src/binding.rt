@@ -1,5 +1,5 @@
 //! A session that is bound at its manager.
-ghost use Rattle.std.specs.Prelude.{◌≡◌, ◌<◌, ◌≤◌, ◌^◌, ◌++◌, Ok};
+ghost use Rattle.std.specs.Prelude.{◌≡◌, ◌<◌, ◌≤◌, ◌^◌, ◌++◌, Ok, true};
 ghost use Rattle.mq_calls.specs.declared.agents.Note.TheVariants as notes;
 ghost use Rattle.mq_takes.specs.Words as words;
 ghost use Rattle.mq_calls.specs.declared.choices.Choice.TheVariants as choices;

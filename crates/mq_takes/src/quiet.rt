@@ -16,8 +16,8 @@ use mq_history::{Actor, Call};
 use mq_message::{Bytes, Dest, Message};
 use mq_own::{ChannelEnd, EndKind, ReceiverEnd};
 use mq_receiver::{ReceiverDoes, ReceiverOut};
-use mq_turns::{Passed, Turn, close_turn, next_stamp, nothing_done, pass};
-use mq_wires::Sight;
+use mq_turns::{Passed, Turn, close_turn, nothing_done, pass};
+use mq_wires::{Sight, next_stamp};
 use std::alloc::Global;
 
 /// A message, with the names that came with it.

@@ -12,8 +12,8 @@ use mq_disk::Disk;
 use mq_events::{NodeParts, Told};
 use mq_history::{Actor, Call};
 use mq_own::{ChannelEnd, EndKind, ReceiverEnd};
-use mq_turns::{Passed, close_turn, next_stamp, pass};
-use mq_wires::Sight;
+use mq_turns::{Passed, close_turn, pass};
+use mq_wires::{Sight, next_stamp};
 
 /// The item that was seen is taken, and what was done at the manager is told; where all was done this end stands in its place. It
 /// takes no memory.

@@ -11,7 +11,7 @@ ghost use Rattle.mq_turns.specs.Acting.{Acts, SendsTurn};
 ghost use Rattle.mq_turns.specs.Sends.{is_ignore, unseen};
 
 use crate::parting::nothing_done;
-use crate::passing::{next_stamp, pass};
+use crate::passing::pass;
 use crate::settling::settling_turn;
 use crate::telling::{Passed, Turn, close_turn};
 use mq_base::NoMemory;
@@ -24,7 +24,7 @@ use mq_history::{Actor, Call};
 use mq_own::{ChannelEnd, EndKind, SenderEnd};
 use mq_sender::{Sender, SenderDoes};
 use mq_sync::Stock;
-use mq_wires::Sight;
+use mq_wires::{Sight, next_stamp};
 
 /// The last number of 64 bits.
 const LAST: u64 = u64::MAX;

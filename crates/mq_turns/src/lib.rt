@@ -20,7 +20,7 @@ pub use beginning::{First, begin_turn};
 pub use parting::{
     expired, hardened, has_run, leave_if, leave_in, nothing_done, ran, released, stopped,
 };
-pub use passing::{has_spelling, next_stamp, pass};
+pub use passing::{has_spelling, pass};
 pub use preparing::prepare_turn;
 pub use pushing::{bind_turn, end_turn, message_turn};
 pub use settling::settling_turn;

@@ -1,5 +1,5 @@
 //! What passes on a wire in a turn.
-ghost use Rattle.std.specs.Prelude.{◌≡◌, ◌+◌, ◌<◌, ◌≤◌, ◌^◌, ℕ, [], max, true};
+ghost use Rattle.std.specs.Prelude.{◌≡◌, ◌+◌, ℕ, [], max, true};
 ghost use Rattle.mq_frame.specs.Frames.{HasSpelling};
 ghost use Rattle.mq_frame.specs.declared.frame.Seen.TheVariants as items;
 ghost use Rattle.mq_wires.specs.Wires.{Sees};
@@ -9,15 +9,6 @@ use mq_cable::Wire;
 use mq_frame::{FrameKind, Seen};
 use mq_unit::can_be_kept;
 use mq_wires::{Sight, take};
-
-/// The stamp of an entry, by the last one and by the item that it pops, if it pops one.
-pub fn next_stamp(last: u64, item: u64) -> u64
-    requires last { last < 2 ^ 60 }
-    requires item { item ≤ 2 ^ 60 }
-    ensures { result ≡ max last item + 1 }
-{
-    if last < item { item + 1 } else { last + 1 }
-}
 
 /// Takes the item that was seen, if one waits. It takes no memory.
 pub fn pass<W: Wire>(wire: &mut W, sight: &Sight)

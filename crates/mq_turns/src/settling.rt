@@ -9,7 +9,7 @@ ghost use Rattle.mq_wires.specs.Wires.{Sees};
 ghost use Rattle.mq_turns.specs.Acting.{Acts, SendsTurn};
 ghost use Rattle.mq_turns.specs.Sends.{Works};
 
-use crate::passing::{next_stamp, pass};
+use crate::passing::pass;
 use crate::telling::{Passed, Turn, close_turn};
 use crate::working::work_in;
 use mq_base::NoMemory;
@@ -20,7 +20,7 @@ use mq_events::NodeParts;
 use mq_history::{Actor, Call};
 use mq_own::{ChannelEnd, EndKind, SenderEnd};
 use mq_sender::{SenderDoes, SenderOut};
-use mq_wires::Sight;
+use mq_wires::{Sight, next_stamp};
 
 /// The end after a line of its table.
 pub fn end_after(end: &SenderEnd, does: &SenderDoes) -> SenderEnd

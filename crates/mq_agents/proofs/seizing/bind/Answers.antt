@@ -1,4 +1,4 @@
-use Rattle.std.proofs.Common.{◌∙◌, true, sym, ap}
+use Rattle.std.proofs.Common.{◌∙◌, true, ap}
 use Rattle.std.specs.Prelude.{[], ◌∷◌}
 use Rattle.mq_calls.specs.Words.{Plain, is_up}
 use Rattle.mq_calls.specs.State.Change.{SetBound}
@@ -12,11 +12,11 @@ use Rattle.mq_agents.proofs.EndLaws.{quiet_as}
 use Rattle.mq_agents.proofs.seizing.bind.Goals as goal
 
 pub put_bond-requires : goal.put_bond-requires
-put_bond-requires g c = λ some.
+put_bond-requires g c =
     let v = c.core.view_is ∙ c.begin_call.ensures in
     let x : PartsValue = c.core.inside.parts in
     let up = mode_up (frozen_of x) x.mode (ap (λ (w : CoreValue). is_up w.plain.running) v ∙ c.requires.up) in
-    is_seated c.args.channel.now x.ends x.log.spare (c.core.invariant.up up).ends some
+    record { seated = is_seated c.args.channel.now x.ends x.log.spare (c.core.invariant.up up).ends }
 
 pub invariant_of-core : goal.invariant_of-core
 invariant_of-core g c = bound_tied c.args.channel.now c.core.inside.parts c.put_bond.new.parts c.put_bond.ensures c.core.invariant

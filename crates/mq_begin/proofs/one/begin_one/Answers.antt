@@ -10,4 +10,4 @@ returns-in-Err-begin-clause-told g c =
     (g.H.D.Disk.seen c.new.result.inner) c.in-Err-begin.unbegun.fault (g.H.D.Disk.faults c.new.result.inner) (g.H.D.Disk.faults c.in-Err-begin.unbegun.disk.inner) c.net_fault-fault.result refl c.from.ensures
     (ap (λ x. g.H.D.Disk.faults x.inner) c.new.ensures ∙ c.in-Ok.ensures.fresh)
     (λ b h. ap (λ x. g.H.D.Disk.seen x.inner) c.new.ensures ∙ c.in-Ok.ensures.bytes b h)
-    c.in-Err-begin.ensures c.net_fault-fault.ensures
+    c.in-Err-begin.ensures.begun c.net_fault-fault.ensures

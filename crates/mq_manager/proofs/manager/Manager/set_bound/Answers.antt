@@ -1,9 +1,9 @@
 use Rattle.std.proofs.Common.{sym, subst}
+use Rattle.std.specs.Prelude.{Ok}
 use Rattle.mq_spec_manager.specs.Agents.{IsUp}
 use Rattle.mq_core.specs.Values.{CoreValue}
-use Rattle.mq_agents.specs.Ends.{by_memory}
 use Rattle.mq_manager.proofs.CallLaws.{kept_bound}
 use Rattle.mq_manager.proofs.manager.Manager.set_bound.Goals as goal
 
 pub invariant_of-self : goal.invariant_of-self
-invariant_of-self g c = kept_bound g.D.Disk.tells c.self.inside.read c.self.inside.core c.set_bound.new.core c.self.invariant (subst (λ (v : CoreValue). IsUp v.plain) (sym c.self.view_is) c.requires.up) c.args.channel.now c.args.bound (by_memory c.set_bound.result) c.set_bound.ensures.meets c.set_bound.ensures.told
+invariant_of-self g c = kept_bound g.D.Disk.tells c.self.inside.read c.self.inside.core c.set_bound.new.core c.self.invariant (subst (λ (v : CoreValue). IsUp v.plain) (sym c.self.view_is) c.requires.up) c.args.channel.now c.args.bound (Ok tt) c.set_bound.ensures.meets c.set_bound.ensures.told
