@@ -9,6 +9,7 @@ S={
 'mq_handles':"Each public function's clauses were read for bodies beside the real one that they let through: only want of memory, where a call may take memory; all else is equations. `rt plant`'s bodies for the 16 that say it in parts, but for want of memory, were all refused, 24 of 24.",
 'mq_core':"Each public function's clauses were read for bodies beside the real one that they let through: want of memory and more room than asked; 18 of the 30 are equations. Over the other 12 33 bodies of `rt plant`'s kind were tried (a success with nothing done, another refusal, a stop without a write, arguments changed): 31 were refused, and two for `pend_put` could not be judged (a limit of the tactics).",
 'mq_ends':"Each public function's clauses were read for bodies beside the real one that they let through: none; each call is its step (`MeetsInRoom`) and its record (`WritesLog`). Seven bodies of `rt plant`'s kind over the three calls (a success with nothing done, a refusal, want of memory, a stop without a write) were all refused.",
+'mq_get':"Each public function's clauses were read for bodies beside the real one that they let through: only want of memory; each call is its step (`Meets`) and its records (`WritesLog`). Of seven bodies of `rt plant`'s kind (a get that waits, that finds nothing, another refusal, a stop without a write) six were refused; `drop_expired` that does nothing could not be judged (a limit of the tactics).",
 }
 def wrapped(t,w=140):
     out=[]; line=''
