@@ -70,15 +70,28 @@ def children(pid):
     found=[pid]
     for q in found: found+=up.get(q,[])
     return found[::-1]
+def offers():
+    return [f'{d}/{n}' for d,_,ns in os.walk(f'{work}/out/incremental') if '-offers' in d for n in ns]
+def newest():
+    return max([os.path.getmtime(f) for f in offers() if os.path.exists(f)],default=0)
 def check(batch):
     copy.write(batch)
     t=time.time()
     # (behind the verdicts rattle writes offers of proof files, which can take longer than the check: it is ended once each body has its line)
+    ended=0
     with open(f'{work}/last.txt','w') as o:
         p=subprocess.Popen(['/work/h/tools/runq','timeout',str(SECONDS),'/usr/bin/time','-f','user %U mem %M KB',f'{KIT}/bin/rattle','check',*words([it.name for it in batch])],cwd=work,stdout=o,stderr=subprocess.STDOUT,stdin=subprocess.DEVNULL,start_new_session=True)
         while p.poll() is None:
             time.sleep(2)
             now=open(f'{work}/last.txt',errors='replace').read()
+            # (all are checked, and an offer takes too long)
+            if re.search(r'(?m)^checked \S+, (\d+) of \1$',now):
+                ended=ended or time.time()
+                if time.time()-max(ended,newest())>60:
+                    for q in children(p.pid):
+                        try: os.kill(q,9)
+                        except ProcessLookupError: pass
+                    p.wait(); open(f'{work}/last.txt','a').write('\nstalled in its offers\n'); break
             if all(re.search(rf'(?m)^fn \S+::{it.name}: .*\n',now) for it in batch):
                 for q in children(p.pid):
                     try: os.kill(q,9)
@@ -92,10 +105,19 @@ left=[plants[i:i+BATCH] for i in range(0,len(plants),BATCH)]
 count=collections.Counter()
 while left:
     batch=left.pop(0)
-    said=check(batch)
+    began=time.time(); said=check(batch)
     if re.search(r'(?m)^(only=|rattle: no verdict)',said):
         P.read(batch,said)
         for it in batch: say(it); count[it.kind]+=1
+        continue
+    if 'stalled in its offers' in said:
+        # an offer is written only for what is not proved
+        for it in batch:
+            if any(f'.{it.name}.' in f and os.path.getmtime(f)>began for f in offers()): it.kind,it.why='unproved','refused or a limit: its offer was not ended'; say(it); count['unproved']+=1
+        rest=[it for it in batch if it.kind=='not-run']
+        if rest and len(rest)<len(batch): left.insert(0,rest)
+        else:
+            for it in rest: it.kind,it.why='not-judged','the check did not end'; say(it); count['not-judged']+=1
         continue
     wrong={copy.lines.get((f,int(n))) for f,n in P.ERROR.findall(said)}; wrong.discard(None)
     if re.search(r'error[\[:]',said) and wrong:
@@ -117,4 +139,4 @@ while left:
     else:
         batch[0].kind,batch[0].why='not-judged','the check did not end'
         say(batch[0]); count['not-judged']+=1
-print(f'== {crate}: '+' '.join(f'{n}={count[n]}' for n in P.KINDS if count[n]),flush=True)
+print(f'== {crate}: '+' '.join(f'{n}={count[n]}' for n in [*P.KINDS,'unproved'] if count[n]),flush=True)
