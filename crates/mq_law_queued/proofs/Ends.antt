@@ -1,7 +1,7 @@
 -- Turns and timeouts of ends, and commands on them: a sender's batch is of the queue that it has open and lists each row once, and where it sends
 -- none it has none; a sender that runs keeps its limits.
 use Rattle.std.proofs.Common.{ℕ, zero, suc, ◌≡◌, ◌≤◌, ◌⊎◌, ◌-◌, Bool, true, false, List, [], ◌∷◌, ◌++◌, refl, ap, sym, subst, ◌∙◌, inl, inr}
-use Rattle.std.specs.Prelude.{Option, Some, None, ◌+◌, nat_lt, ◌==◌, ◌||◌, ◌&&◌, if◌then◌else◌, not}
+use Rattle.std.specs.Prelude.{Option, Some, None, ◌+◌, nat_lt, ◌==◌, ◌||◌, ◌&&◌, if◌then◌else◌, not, filter, take}
 use Rattle.std.specs.Str.{bytes_eq}
 use Rattle.mq_base.specs.Members.{AreDistinct, Mem}
 use Rattle.mq_codes.specs.declared.reason.Reason.{Reason}
@@ -17,7 +17,7 @@ use Rattle.mq_sync.specs.declared.data.End.TheVariants as end_kinds
 use Rattle.mq_sync.specs.declared.data.InDoubt.{InDoubt}
 use Rattle.mq_sync.specs.declared.data.Stock.{Stock}
 use Rattle.mq_sync.specs.declared.unit.Settle.{Settle}
-use Rattle.mq_sync.specs.Settlement.{is_commit, receiver_or}
+use Rattle.mq_sync.specs.Settlement.{is_commit, receiver_or, sender_or}
 use Rattle.mq_sync.specs.Units.{unit_named}
 use Rattle.mq_sender.specs.declared.state.Limits.{Limits}
 use Rattle.mq_sender.specs.declared.state.Sender.{Sender}
@@ -29,7 +29,7 @@ use Rattle.mq_sender.specs.declared.turns.SenderDoes.TheVariants as does
 use Rattle.mq_sender.specs.declared.turns.SenderOut.TheVariants as outs
 use Rattle.mq_sender.specs.After.{number_sent, sender_after}
 use Rattle.mq_sender.specs.States as senders
-use Rattle.mq_sender.specs.Table.{sender_lines, sender_next}
+use Rattle.mq_sender.specs.Table.{sender_lines, sender_next, is_binding, is_hailing, is_idle, is_ready, is_sending, is_starting, is_waiting}
 use Rattle.mq_receiver.specs.declared.turns.ReceiverDoes.{ReceiverDoes}
 use Rattle.mq_receiver.specs.declared.turns.ReceiverDoes.TheVariants as takes
 use Rattle.mq_receiver.specs.After.{bound_by, last_by}
@@ -48,12 +48,12 @@ use Rattle.mq_history.specs.declared.acts.OpRefusal.TheVariants as reasons
 use Rattle.mq_calls.specs.State.{Plain}
 use Rattle.mq_calls.specs.declared.state.Seizure.{Seizure}
 use Rattle.mq_calls.specs.State.Change.{Seize}
-use Rattle.mq_calls.specs.Reads.{batch_of, has_held_by_other, in_doubt_of, is_open_for_input, is_up, receiver_data, sender_data}
-use Rattle.mq_calls.specs.Steps.{Part, Step, do_all, refusal, refused_or as step_or, silent, when}
+use Rattle.mq_calls.specs.Reads.{batch_of, has_held_by_other, in_doubt_of, is_open_for_input, is_up, receiver_data, sender_data, free_rows, is_full, stored}
+use Rattle.mq_calls.specs.Steps.{Part, Step, do_all, refusal, refused_or as step_or, silent, when, do_part}
 use Rattle.mq_calls.specs.Steps.Step.{Do, Refuse}
 use Rattle.mq_spec_manager.specs.Get.{expired_parts}
 use Rattle.mq_spec_manager.specs.Handles.{is_transmission_queue}
-use Rattle.mq_spec_manager.specs.Agents.{channel_queue, expired_rows, harden, hold_batch, landed, leave, prepare, queue_of_sender, receive, release_of, seize, set_bound, stock}
+use Rattle.mq_spec_manager.specs.Agents.{channel_queue, expired_rows, harden, hold_batch, leave, prepare, queue_of_sender, receive, release_of, seize, set_bound, stock, prepare_of, prepared_changes, prepared_record}
 use Rattle.mq_spec_node.specs.Node.{ChannelEnd, Node, ReceiverEnd, SenderEnd, cable_of, receiver_named, sender_named, set_end, with_end}
 use Rattle.mq_spec_node.specs.Node.ChannelEnd.{Receives, Sends}
 use Rattle.mq_spec_node.specs.Deeds.{Deed, parts_of}
@@ -62,40 +62,30 @@ use Rattle.mq_spec_node.specs.Operators.{close_open, is_bad_number, is_in_doubt,
 use Rattle.mq_spec_node.specs.Receivers.{bind_parts, close_parts, is_receiver_defined, place_deed, receiver_deed, receiver_deed_by}
 use Rattle.mq_spec_node.specs.Senders.{after_timeout, doubted, leave_if_stopped, prepare_deed, sender_deed, sender_deed_by, settle_parts, settle_parts_if, timeout_deed}
 use Rattle.mq_law_manager.specs.Facts.{Differ, ident_of}
-use Rattle.mq_law_manager.proofs.Lists.{bool_case, is_false, name_yes}
+use Rattle.mq_law_manager.proofs.Lists.{bool_case, is_false, name_yes, name_self}
 use Rattle.mq_law_node.proofs.Named.{nat_self, nat_yes}
 use Rattle.mq_law_keys.specs.Keys.{AreKeyed, IsKeyed, key_of, keys}
 use Rattle.mq_law_keys.proofs.Telling.{one_channel, receiver_mem, sender_mem}
 use Rattle.mq_calls.specs.declared.agents.PrepareFault.TheVariants as prepare_faults
 use Rattle.mq_calls.specs.declared.deltas.Did.TheVariants as did
 use Rattle.mq_sync.specs.declared.unit.Unit.{Unit as Luw}
-use Rattle.mq_sync.specs.Settlement.{sender_or}
-use Rattle.mq_sender.specs.Table.{is_binding, is_hailing, is_idle, is_ready, is_sending, is_starting, is_waiting}
-use Rattle.mq_calls.specs.Reads.{free_rows, is_full, stored}
 use Rattle.mq_calls.specs.Sizes.{need}
-use Rattle.mq_calls.specs.Steps.{do_part}
 use Rattle.mq_spec_manager.specs.Words.{idents_of}
-use Rattle.mq_spec_manager.specs.Agents.{prepare_of, prepared_changes, prepared_record}
-use Rattle.std.specs.Prelude.{filter, take}
-use Rattle.mq_law_manager.proofs.Lists.{name_self}
 use Rattle.mq_law_manager.proofs.Named.{batch_set}
 use Rattle.mq_law_channel.proofs.Told.{by_lines}
-use Rattle.mq_law_seized.proofs.Changing.{both_true}
+use Rattle.std.proofs.lemmas.Bool.{and_parts, true≢false}
 use Rattle.mq_law_unshared.proofs.Opening.{idles}
 use Rattle.mq_law_queued.specs.Queued.{AreQueued, HaveSome, IsKindSome, IsQueued, parts_bare, parts_calm, parts_calm_for}
-use Rattle.mq_law_queued.proofs.Calms.{Same, bare_behind, bare_parts, batch_at, batch_gone, for_behind, for_parts, harden_calm, landed_calm, parts_none, parts_same, receive_calm, removal_calm, step_parts}
+use Rattle.mq_law_queued.proofs.Calms.{Same, bare_behind, bare_parts, batch_at, batch_gone, for_behind, for_parts, harden_calm, parts_none, parts_same, receive_calm, removal_calm, step_parts}
 
 -- behind a deed
 abbrev pub EachQueued : Node → Option Deed → Type 0
 EachQueued n None = Unit {0}
 EachQueued n (Some d) = AreQueued d.own.ends (do_all d.parts n.manager)
 
-true_false : true ≡ false → ⊥
-true_false e = cc
-
 -- WHICH ENDS: one takes the place of the one that has its cable
 eq_back : (a b : ℕ) → (a == b) ≡ false → (b == a) ≡ false
-eq_back a b e = is_false (b == a) (λ f. true_false (sym (ap (λ k. k == b) (sym (nat_yes b a f)) ∙ nat_self b) ∙ e))
+eq_back a b e = is_false (b == a) (λ f. true≢false (sym (ap (λ k. k == b) (sym (nat_yes b a f)) ∙ nat_self b) ∙ e))
 
 mem_key : (x : ChannelEnd) (es : List ChannelEnd) → Mem x es → Mem (key_of x) (keys es)
 mem_key x [] n = absurd n
@@ -112,7 +102,7 @@ mem_set new old (y ∷ es) x h n c m = bool_case (cable_of y == cable_of new) (�
     (λ z w k. elim k [
       | inl e ↦ inr (inl e, (λ i. cable_of (e i) == sym c i) ∙ w)
       | inr j ↦ elim n [
-        | inl o ↦ absurd (true_false (sym (ap (λ v. v == cable_of new) (sym (ap cable_of o)) ∙ ap (λ v. v == cable_of new) (sym c) ∙ nat_self (cable_of new)) ∙ w))
+        | inl o ↦ absurd (true≢false (sym (ap (λ v. v == cable_of new) (sym (ap cable_of o)) ∙ ap (λ v. v == cable_of new) (sym c) ∙ nat_self (cable_of new)) ∙ w))
         | inr o ↦ elim (mem_set new old es x h.1 o c j) [ inl e ↦ inl e | inr r ↦ inr (inr r.0, r.1) ]
       ]
     ]) refl m
@@ -121,7 +111,7 @@ mem_set new old (y ∷ es) x h n c m = bool_case (cable_of y == cable_of new) (�
 other_channel : (n : Node) (e x : SenderEnd) → IsKeyed n → Mem (Sends e) n.own.ends → Mem (Sends x) n.own.ends → (x.cable == e.cable) ≡ false → bytes_eq x.channel e.channel ≡ false
 other_channel n e x h a b apart = is_false (bytes_eq x.channel e.channel) (λ f.
     let same : Sends x ≡ Sends e = one_channel n.own.ends (Sends x) (Sends e) h b a (name_yes x.channel e.channel f) in
-    true_false (sym (ap (λ v. v == e.cable) (ap cable_of same) ∙ nat_self e.cable) ∙ apart))
+    true≢false (sym (ap (λ v. v == e.cable) (ap cable_of same) ∙ nat_self e.cable) ∙ apart))
 
 same_sender : (a b : SenderEnd) → Sends a ≡ Sends b → a ≡ b
 same_sender a b e = cc
@@ -221,15 +211,15 @@ Suits st (does.Backout reason) = is_sending st ≡ false
 Suits st _ = Unit {0}
 
 no_way : {P : Type 0} (b : Bool) → b ≡ true → b ≡ false → P
-no_way b e f = absurd (true_false (sym e ∙ f))
+no_way b e f = absurd (true≢false (sym e ∙ f))
 
 suits : (m : Sender) (seen : Seen) (st : Stock) → Suits m.state (sender_next m seen st)
 suits m seen st = by_lines (Suits m.state) does.Still (sender_lines m seen st) (
-  (λ z. off (λ k. no_way (is_binding m.state) (both_true _ _ z).0 k.0)),
+  (λ z. off (λ k. no_way (is_binding m.state) (and_parts _ _ z).0 k.0)),
   λ e0. (
-    (λ z. off (λ k. no_way (is_waiting m.state) (both_true _ _ z).0 k.1)),
+    (λ z. off (λ k. no_way (is_waiting m.state) (and_parts _ _ z).0 k.1)),
     λ e1. (
-      (λ z. off (λ k. no_way (is_waiting m.state) (both_true _ _ z).0 k.1)),
+      (λ z. off (λ k. no_way (is_waiting m.state) (and_parts _ _ z).0 k.1)),
       λ e2. (
         (λ z. tt),
         λ e3. (
@@ -292,7 +282,7 @@ let_go n e m h there q off =
     (λ c apart. for_behind c freed (parts_of (leave e.channel n.manager)) (release_for c e.channel o apart) (leave_for c e.channel n.manager apart))
     (none_queued (record e { machine = m }) (do_all (freed ++ parts_of (leave e.channel n.manager)) n.manager)
     (ap (batch_at e.channel) (do_behind freed (parts_of (leave e.channel n.manager)) n.manager) ∙ parts_none e.channel (parts_of (leave e.channel n.manager)) (do_all freed n.manager) refl (released e.channel n.manager o refl))
-    (λ on. absurd (true_false (sym on ∙ off))))
+    (λ on. absurd (true≢false (sym on ∙ off))))
 
 -- a prepared batch is the unit in doubt
 abbrev Prepares : List ℕ → Plain → Step PrepareFault (Unit {0}) → Type 0
@@ -361,7 +351,7 @@ begun_queued : (n : Node) (e : SenderEnd) (m : Sender) (unit : Luw) (count : ℕ
     → AreQueued (with_end (Sends (record e { machine = m })) n.own).ends (do_all (parts_of (hold_batch e.channel unit count n.manager)) n.manager)
 begun_queued n e m unit count h there q once big on =
     set_queued n e m (parts_of (hold_batch e.channel unit count n.manager)) h there q (λ c apart. ap (λ t. (not t && true) && true) apart) (record {
-      none = λ z. absurd (true_false (sym on ∙ z));
+      none = λ z. absurd (true≢false (sym on ∙ z));
       of = λ b k. sym (ap (λ (x : Batch). x.queue) (some_is new b (sym found ∙ k)));
       once = λ b k. subst (λ (x : Batch). AreDistinct x.idents) (some_is new b (sym found ∙ k)) (idents_once (take count (free_rows queue n.manager)) (take_differ count (free_rows queue n.manager) (filter_differ is_free (stored queue n.manager).rows (once queue))));
       some = λ z. big;
@@ -392,7 +382,7 @@ turned_by stamp n e does.PushBind h there q once big off = sent_none n e does.Pu
 turned_by stamp n e does.Expire h there q once big off = sent_none n e does.Expire (expired_parts (queue_of_sender e.channel n.manager) (expired_rows (queue_of_sender e.channel n.manager) n.manager)) h there q off big (removal_calm whys.Expired (queue_of_sender e.channel n.manager) (expired_rows (queue_of_sender e.channel n.manager) n.manager))
 turned_by stamp n e (does.Begin k count) h there q once big off = begun_queued n e (sender_after e.machine (does.Begin k count) outs.Done) (unit_named e.machine.kept.session k) count h there q once big refl
 turned_by stamp n e (does.PushMsg index) h there q once big off =
-    set_queued n e (sender_after e.machine (does.PushMsg index) outs.Done) [] h there q (λ c apart. refl) (record { none = λ z. absurd (true_false z); of = (q e there).of; once = (q e there).once; some = λ z. big })
+    set_queued n e (sender_after e.machine (does.PushMsg index) outs.Done) [] h there q (λ c apart. refl) (record { none = λ z. absurd (true≢false z); of = (q e there).of; once = (q e there).once; some = λ z. big })
 turned_by stamp n e does.Prepare h there q once big off =
     prepares_queued n e (prepare e.channel (number_sent e.machine.state e.machine.kept.last) n.manager) h there q big (prepare_so e.channel (number_sent e.machine.state e.machine.kept.last) n.manager (batch_of e.channel n.manager.channels.batches) refl)
 turned_by stamp n e does.PushEnd h there q once big off = sent_none n e does.PushEnd [] h there q off big refl
@@ -455,7 +445,7 @@ receiver_by stamp n e seen takes.Bind q = beside_queued n _ (bind_parts e (bound
 receiver_by stamp n e seen takes.Keep q = beside_queued n _ [] refl q
 receiver_by stamp n e seen (takes.Place u) q =
     let s : Step Reason (Unit {0}) = receive e.channel u (last_by seen e.machine.last) e.kept n.manager in
-    places_open n e seen s (takes.Place u) u refl (step_parts s (receive_calm e.channel u (last_by seen e.machine.last) (landed e.channel e.kept n.manager) n.manager (landed_calm e.channel e.kept n.manager))) q
+    places_open n e seen s (takes.Place u) u refl (step_parts s (receive_calm e.channel u (last_by seen e.machine.last) e.kept n.manager)) q
 receiver_by stamp n e seen takes.Again q = beside_queued n _ [] refl q
 receiver_by stamp n e seen takes.Close q = beside_queued n _ (close_parts e n.manager) refl q
 

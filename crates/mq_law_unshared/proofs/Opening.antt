@@ -1,6 +1,7 @@
 -- A sender that runs has its queue open, behind each event of a node: START opens it, and each turn, timeout and command that ends the run
 -- leaves it.
 use Rattle.std.proofs.Common.{ℕ, ◌≡◌, ◌⊎◌, ◌-◌, Bool, true, false, List, [], ◌∷◌, ◌++◌, refl, ap, sym, subst, ◌∙◌, inl, inr}
+use Rattle.std.proofs.lemmas.Bool.{true≢false}
 use Rattle.std.specs.Prelude.{Option, Some, None, ◌==◌, ◌||◌, ◌&&◌, if◌then◌else◌, not}
 use Rattle.std.specs.Str.{bytes_eq}
 use Rattle.mq_base.specs.Members.{Mem}
@@ -50,7 +51,7 @@ use Rattle.mq_calls.specs.Steps.{Part, Step, do_all, refusal, refused_or as step
 use Rattle.mq_calls.specs.Steps.Step.{Do, Refuse}
 use Rattle.mq_spec_manager.specs.Get.{expired_parts}
 use Rattle.mq_spec_manager.specs.Handles.{is_transmission_queue}
-use Rattle.mq_spec_manager.specs.Agents.{HasSeized, channel_queue, expired_rows, harden, hold_batch, landed, leave, prepare, queue_of_sender, receive, release_of, seize, set_bound, stock}
+use Rattle.mq_spec_manager.specs.Agents.{HasSeized, channel_queue, expired_rows, harden, hold_batch, leave, prepare, queue_of_sender, receive, release_of, seize, set_bound, stock}
 use Rattle.mq_spec_node.specs.Node.{ChannelEnd, Node, ReceiverEnd, SenderEnd, cable_of, receiver_named, sender_named, set_end, with_end}
 use Rattle.mq_spec_node.specs.Node.ChannelEnd.{Receives, Sends}
 use Rattle.mq_spec_node.specs.Deeds.{Deed, parts_of}
@@ -63,7 +64,7 @@ use Rattle.mq_law_node.proofs.Named.{nat_self, nat_yes}
 use Rattle.mq_law_keys.specs.Keys.{AreKeyed, IsKeyed, key_of, keys}
 use Rattle.mq_law_keys.proofs.Telling.{one_channel, receiver_mem, sender_mem}
 use Rattle.mq_law_seized.proofs.Bare.{removal_bare}
-use Rattle.mq_law_seized.proofs.Seizing.{hardens_bare, landed_bare, prepare_bare, receive_bare, release_bare}
+use Rattle.mq_law_seized.proofs.Seizing.{hardens_bare, prepare_bare, receives_bare, release_bare}
 use Rattle.mq_law_unshared.specs.Unshared.{AreOpen, parts_still, parts_still_for}
 use Rattle.mq_law_unshared.proofs.Stills.{bare_parts, bare_still_parts, for_behind, for_parts, parts_have, set_there}
 
@@ -72,12 +73,9 @@ abbrev pub EachOpen : Node → Option Deed → Type 0
 EachOpen n None = Unit {0}
 EachOpen n (Some d) = AreOpen d.own.ends (do_all d.parts n.manager)
 
-true_false : true ≡ false → ⊥
-true_false e = cc
-
 -- WHICH ENDS: one takes the place of the one that has its cable
 eq_back : (a b : ℕ) → (a == b) ≡ false → (b == a) ≡ false
-eq_back a b e = is_false (b == a) (λ f. true_false (sym (ap (λ k. k == b) (sym (nat_yes b a f)) ∙ nat_self b) ∙ e))
+eq_back a b e = is_false (b == a) (λ f. true≢false (sym (ap (λ k. k == b) (sym (nat_yes b a f)) ∙ nat_self b) ∙ e))
 
 mem_key : (x : ChannelEnd) (es : List ChannelEnd) → Mem x es → Mem (key_of x) (keys es)
 mem_key x [] n = absurd n
@@ -94,7 +92,7 @@ mem_set new old (y ∷ es) x h n c m = bool_case (cable_of y == cable_of new) (�
     (λ z w k. elim k [
       | inl e ↦ inr (inl e, (λ i. cable_of (e i) == sym c i) ∙ w)
       | inr j ↦ elim n [
-        | inl o ↦ absurd (true_false (sym (ap (λ v. v == cable_of new) (sym (ap cable_of o)) ∙ ap (λ v. v == cable_of new) (sym c) ∙ nat_self (cable_of new)) ∙ w))
+        | inl o ↦ absurd (true≢false (sym (ap (λ v. v == cable_of new) (sym (ap cable_of o)) ∙ ap (λ v. v == cable_of new) (sym c) ∙ nat_self (cable_of new)) ∙ w))
         | inr o ↦ elim (mem_set new old es x h.1 o c j) [ inl e ↦ inl e | inr r ↦ inr (inr r.0, r.1) ]
       ]
     ]) refl m
@@ -103,7 +101,7 @@ mem_set new old (y ∷ es) x h n c m = bool_case (cable_of y == cable_of new) (�
 other_channel : (n : Node) (e x : SenderEnd) → IsKeyed n → Mem (Sends e) n.own.ends → Mem (Sends x) n.own.ends → (x.cable == e.cable) ≡ false → bytes_eq x.channel e.channel ≡ false
 other_channel n e x h a b apart = is_false (bytes_eq x.channel e.channel) (λ f.
     let same : Sends x ≡ Sends e = one_channel n.own.ends (Sends x) (Sends e) h b a (name_yes x.channel e.channel f) in
-    true_false (sym (ap (λ v. v == e.cable) (ap cable_of same) ∙ nat_self e.cable) ∙ apart))
+    true≢false (sym (ap (λ v. v == e.cable) (ap cable_of same) ∙ nat_self e.cable) ∙ apart))
 
 same_sender : (a b : SenderEnd) → Sends a ≡ Sends b → a ≡ b
 same_sender a b e = cc
@@ -154,7 +152,7 @@ let_go : (n : Node) (e : SenderEnd) (m : Sender) (o : Option Batch) → IsKeyed 
     → AreOpen (with_end (Sends (record e { machine = m })) n.own).ends (do_all (parts_of (release_of e.channel o) ++ parts_of (leave e.channel n.manager)) n.manager)
 let_go n e m o h there open_ off = set_open n e m (parts_of (release_of e.channel o) ++ parts_of (leave e.channel n.manager)) h there open_
     (λ c apart. for_behind c (parts_of (release_of e.channel o)) (parts_of (leave e.channel n.manager)) (for_parts c (parts_of (release_of e.channel o)) (bare_parts (release_of e.channel o) (release_bare e.channel o))) (leave_for c e.channel n.manager apart))
-    (λ on. absurd (true_false (sym on ∙ off)))
+    (λ on. absurd (true≢false (sym on ∙ off)))
 
 prepares_open : (n : Node) (e : SenderEnd) (s : Step PrepareFault (Unit {0})) → IsKeyed n → Mem (Sends e) n.own.ends → AreOpen n.own.ends n.manager → senders.is_running e.machine.state ≡ true → parts_still (parts_of s) ≡ true → EachOpen n (Some (prepare_deed e s n))
 prepares_open n e (Refuse fault) h there open_ runs still = let_go n e (sender_after e.machine does.Prepare outs.NoRoom) (batch_of e.channel n.manager.channels.batches) h there open_ refl
@@ -251,7 +249,7 @@ receiver_by stamp n e seen takes.Bind open_ = beside_open n _ (bind_parts e (bou
 receiver_by stamp n e seen takes.Keep open_ = beside_open n _ [] refl open_
 receiver_by stamp n e seen (takes.Place u) open_ =
     let s : Step Reason (Unit {0}) = receive e.channel u (last_by seen e.machine.last) e.kept n.manager in
-    places_open n e seen s (takes.Place u) u refl (bare_parts s (receive_bare e.channel u (last_by seen e.machine.last) (landed e.channel e.kept n.manager) n.manager (landed_bare e.channel e.kept n.manager))) open_
+    places_open n e seen s (takes.Place u) u refl (bare_parts s (receives_bare e.channel u (last_by seen e.machine.last) e.kept n.manager)) open_
 receiver_by stamp n e seen takes.Again open_ = beside_open n _ [] refl open_
 receiver_by stamp n e seen takes.Close open_ = beside_open n _ (close_parts e n.manager) refl open_
 
