@@ -39,11 +39,11 @@ use Rattle.mq_spec_manager.specs.Commands.{command}
 use Rattle.mq_spec_manager.specs.Triggers.{first_due, trigger_turn}
 use Rattle.mq_spec_manager.specs.Agents.{move_row, row_with, discard}
 use Rattle.mq_spec_node.specs.Node.{Node, Own, Handler, handler_in, end_in}
-use Rattle.mq_spec_node.specs.Deeds.{Deed, told, parts_of, mqi_deed, ended_deed}
+use Rattle.mq_spec_node.specs.Deeds.{Deed, told, mqi_deed, ended_deed}
 use Rattle.mq_spec_node.specs.Handlers as handlers
 use Rattle.mq_spec_node.specs.Status.{shown, status_line, is_asked}
 use Rattle.mq_spec_node.specs.Happens.{get_done, got_deed, get_deed, command_deed, obey_deed, trigger_deed_of, trigger_deed, handler_turn, turn_up, where_up, deed_of}
-use Rattle.mq_law_node.specs.Quiet.{parts_call, step_call, IsCallDeed, EachCall, IsQuietDeed, EachQuiet, IsCommandQuiet, IsTurnQuiet, IsOrdinary}
+use Rattle.mq_law_node.specs.Quiet.{is_call, parts_call, step_call, IsCallDeed, EachCall, IsQuietDeed, EachQuiet, IsCommandQuiet, IsTurnQuiet, IsOrdinary}
 use Rattle.mq_law_node.proofs.Named.{bool_case}
 use Rattle.mq_law_manager.proofs.CommonCalls.{discard_common, move_common, mqback_common, mqclose_common, mqcmit_common, mqconn_common, mqdisc_common, mqput1_common, mqput_common, trigger_common}
 use Rattle.mq_law_node.proofs.Calls as calls_of
@@ -56,7 +56,7 @@ use Rattle.mq_law_channel.specs.Channel.{Channel, Past}
 use Rattle.mq_law_node.specs.Ends.{Where, told_sends, told_receives, Reads, SendsAs, TakesAs, offering, Sent}
 use Rattle.mq_law_node.specs.Moves as near
 use Rattle.mq_law_node.specs.Moves.{FarStep, Moves, Goes}
-use Rattle.mq_law_node.proofs.Quiet.{sender_parts_quiet, receiver_parts_quiet, batch_parts_quiet, parts_call_quiet}
+use Rattle.mq_law_node.proofs.Quiet.{sender_parts_quiet, receiver_parts_quiet, batch_parts_quiet, parts_call_quiet, step_parts}
 use Rattle.mq_law_node.proofs.DataLaws.{batch_done_all}
 use Rattle.mq_law_node.proofs.SenderTurns.{leaves}
 use Rattle.mq_law_node.proofs.ReceiverTurns.{arrives}
@@ -85,10 +85,6 @@ command_is_call own (Do reply parts) h = record { parts = h; ends = refl; pushed
 pub told_is_call : (reply : Reply) (own : Own) → IsCallDeed own (told reply own)
 told_is_call reply own = record { parts = refl; ends = refl; pushed = refl }
 
-pub parts_are_call : {F T : Type 0} (s : Step F T) → step_call s ≡ true → parts_call (parts_of s) ≡ true
-parts_are_call (Refuse reason) h = refl
-parts_are_call (Do reply parts) h = h
-
 -- DISPLAY CHSTATUS
 pub shown_is_call : (own : Own) (any_end : Bool) (lines : List (List ℕ)) → IsCallDeed own (shown own any_end lines)
 shown_is_call own true [] = told_is_call _ own
@@ -104,7 +100,7 @@ moved_is_call queue m k rule tries h p own (Refuse reason) q = failed_is_call qu
 moved_is_call queue m k rule tries h p own (Do reply parts) q = record { parts = q; ends = refl; pushed = refl }
 
 pub acted_is_call : (queue : List ℕ) (m : Message) (k : ℕ) (rule : Rule) (action : Action) (tries : ℕ) (h : Handler) (p : Plain) (own : Own) → IsCallDeed own (handlers.acted queue m k rule action tries h p own)
-acted_is_call queue m k rule actions.Discard tries h p own = record { parts = parts_are_call (discard queue m.ident p) (calls_of.step_common (discard queue m.ident p) (discard_common queue m.ident p)); ends = refl; pushed = refl }
+acted_is_call queue m k rule actions.Discard tries h p own = record { parts = step_parts is_call (discard queue m.ident p) (calls_of.step_common (discard queue m.ident p) (discard_common queue m.ident p)); ends = refl; pushed = refl }
 acted_is_call queue m k rule actions.Ignore tries h p own = record { parts = refl; ends = refl; pushed = refl }
 acted_is_call queue m k rule actions.Retry tries h p own = moved_is_call queue m k rule tries h p own (move_row queue m.ident (handlers.retry_to m) true p) (calls_of.step_common (move_row queue m.ident (handlers.retry_to m) true p) (move_common queue (handlers.retry_to m) true (row_with (Some m.ident) (stored queue p).rows) p))
 acted_is_call queue m k rule (actions.Forward f) tries h p own = moved_is_call queue m k rule tries h p own (move_row queue m.ident (handlers.forward_to m f) (not f.header) p) (calls_of.step_common (move_row queue m.ident (handlers.forward_to m f) (not f.header) p) (move_common queue (handlers.forward_to m f) (not f.header) (row_with (Some m.ident) (stored queue p).rows) p))
@@ -132,7 +128,7 @@ handler_is_call (Some h) n = handler_on_call _ (handlers.input_queue h.table n.m
 -- triggers
 pub trigger_of_call : (q : Option LocalQueue) (n : Node) → EachCall n.own (trigger_deed_of q n)
 trigger_of_call None n = tt
-trigger_of_call (Some q) n = record { parts = parts_are_call (trigger_turn n.manager) (calls_of.step_common (trigger_turn n.manager) (trigger_common (is_up n.manager.running) n.manager)); ends = refl; pushed = refl }
+trigger_of_call (Some q) n = record { parts = step_parts is_call (trigger_turn n.manager) (calls_of.step_common (trigger_turn n.manager) (trigger_common (is_up n.manager.running) n.manager)); ends = refl; pushed = refl }
 
 pub running_case : (r : Running) (P : Running → Type 0) → P Up → ((noted : _) (starts : ℕ) → P (Down noted starts)) → P r
 running_case Up P a b = a

@@ -3,12 +3,7 @@ use Rattle.std.proofs.Common.{ℕ, ◌≡◌, Bool, true, false, List, [], ◌�
 use Rattle.std.proofs.lemmas.Bool.{not-true}
 use Rattle.std.specs.Prelude.{Option, Some, None, filter, if◌then◌else◌, not}
 use Rattle.std.specs.Str.{bytes_eq}
-use Rattle.mq_message.specs.declared.message.Message.{Message}
 use Rattle.mq_objects.specs.Names.{local_of}
-use Rattle.mq_sync.specs.declared.unit.Unit.{Unit as Luw}
-use Rattle.mq_queue.specs.declared.row.Row.{Row}
-use Rattle.mq_calls.specs.declared.agents.Note.{Note}
-use Rattle.mq_calls.specs.declared.deltas.Why.{Why}
 use Rattle.mq_calls.specs.declared.records.LogRecord.{LogRecord}
 use Rattle.mq_calls.specs.declared.state.Batch.{Batch}
 use Rattle.mq_calls.specs.State.{Change, Plain}
@@ -17,27 +12,19 @@ use Rattle.mq_calls.specs.State.Change.{AddBatch, DropBatch, ForgetAll, Seize, S
 use Rattle.mq_calls.specs.Reads.{batch_of, seizure_of}
 use Rattle.mq_calls.specs.Changes.{apply, set_named, try_if}
 use Rattle.mq_calls.specs.Condition.{condition}
-use Rattle.mq_calls.specs.Steps.{Part, Step, do_all, logged}
-use Rattle.mq_calls.specs.Steps.Step.{Do, Refuse}
-use Rattle.mq_spec_manager.specs.Get.{removal_parts}
-use Rattle.mq_spec_manager.specs.Agents.{harden_part, receive, queue_of_sender, seized_queue}
-use Rattle.mq_spec_node.specs.Deeds.{parts_of}
+use Rattle.mq_calls.specs.Steps.{Part, do_all, logged}
+use Rattle.mq_spec_manager.specs.Agents.{queue_of_sender, seized_queue}
 use Rattle.mq_law_manager.proofs.Lists.{bool_case, name_yes}
-use Rattle.mq_law_manager.specs.Each.{is_written}
-use Rattle.mq_law_manager.proofs.Each.{all_weaker, kept_behind, parts_behind, parts_keep, parts_weaker, step_weaker}
-use Rattle.mq_law_manager.proofs.Written.{harden_written, receive_written}
-use Rattle.mq_law_queued.specs.Queued.{all_calm, is_bare, is_calm, is_calm_for, parts_bare, parts_calm, parts_calm_for, step_calm}
+use Rattle.mq_law_manager.specs.Each.{is_common, is_written}
+use Rattle.mq_law_manager.proofs.Each.{kept_behind, parts_behind, parts_keep, parts_weaker}
+use Rattle.mq_law_queued.specs.Queued.{is_bare, is_calm, is_calm_for, parts_bare, parts_calm, parts_calm_for}
 use Rattle.mq_law_manager.proofs.Named.{batch_set, found_named, named_set}
 
 -- LISTS
-pub removal_calm : (why : Why) (queue : List ℕ) (rows : List Row) → parts_calm (removal_parts why queue rows) ≡ true
-removal_calm why queue [] = refl
-removal_calm why queue (row ∷ rows) = refl
-
 pub for_behind : (c : List ℕ) (xs ys : List Part) → parts_calm_for c xs ≡ true → parts_calm_for c ys ≡ true → parts_calm_for c (xs ++ ys) ≡ true
 for_behind c xs ys a b = parts_behind (is_calm_for c) xs ys a b
 
-for_one : (c : List ℕ) (x : Change) → is_calm x ≡ true → is_calm_for c x ≡ true
+pub for_one : (c : List ℕ) (x : Change) → is_calm x ≡ true → is_calm_for c x ≡ true
 for_one c (Seize s) e = absurd cc
 for_one c (Unseize other) e = absurd cc
 for_one c (AddBatch b) e = absurd cc
@@ -152,21 +139,19 @@ bare_parts xs e = parts_weaker is_calm is_bare bare_one xs e
 pub bare_behind : (xs ys : List Part) → parts_bare xs ≡ true → parts_bare ys ≡ true → parts_bare (xs ++ ys) ≡ true
 bare_behind xs ys a b = parts_behind is_bare xs ys a b
 
--- WHAT ENDS ASK
-pub step_parts : {F T : Type 0} (s : Step F T) → step_calm s ≡ true → parts_calm (parts_of s) ≡ true
-step_parts (Refuse reason) e = refl
-step_parts (Do reply parts) e = e
+-- WHAT IS COMMON OR WRITTEN is calm
+pub common_calm : (c : Change) → is_common c ≡ true → is_calm c ≡ true
+common_calm (Seize s) e = absurd cc
+common_calm (Unseize channel) e = absurd cc
+common_calm (AddBatch b) e = absurd cc
+common_calm (DropBatch channel) e = absurd cc
+common_calm ForgetAll e = absurd cc
+common_calm c e = refl
 
-written_calm : (c : Change) → is_written c ≡ true → is_calm c ≡ true
+pub written_calm : (c : Change) → is_written c ≡ true → is_calm c ≡ true
 written_calm (Seize s) e = absurd cc
 written_calm (Unseize channel) e = absurd cc
 written_calm (AddBatch b) e = absurd cc
 written_calm (DropBatch channel) e = absurd cc
 written_calm ForgetAll e = absurd cc
 written_calm c e = refl
-
-pub harden_calm : (channel : List ℕ) (note : Note) (p : Plain) → all_calm (harden_part channel note p).changes ≡ true
-harden_calm channel note p = all_weaker is_written is_calm written_calm (harden_part channel note p).changes (harden_written channel note p)
-
-pub receive_calm : (channel : List ℕ) (unit : Luw) (last : ℕ) (batch : List Message) (p : Plain) → step_calm (receive channel unit last batch p) ≡ true
-receive_calm channel unit last batch p = step_weaker is_written is_calm written_calm (receive channel unit last batch p) (receive_written channel unit last batch p)

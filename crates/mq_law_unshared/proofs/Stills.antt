@@ -12,19 +12,19 @@ use Rattle.mq_calls.specs.Reads.{seizure_of}
 use Rattle.mq_calls.specs.Changes.{apply, comes_before, set_named, try_if}
 use Rattle.mq_calls.specs.Condition.{condition}
 use Rattle.mq_calls.specs.Steps.{Part, Step, do_all, logged}
-use Rattle.mq_calls.specs.Steps.Step.{Do, Refuse}
 use Rattle.mq_spec_manager.specs.Agents.{HasSeized}
 use Rattle.mq_spec_node.specs.Deeds.{parts_of}
 use Rattle.mq_law_manager.proofs.Lists.{bool_case, name_self, name_yes}
-use Rattle.mq_law_manager.proofs.Each.{kept_behind, parts_behind, parts_keep, parts_weaker}
-use Rattle.mq_law_seized.specs.Seized.{is_bare, parts_bare, step_bare}
-use Rattle.mq_law_unshared.specs.Unshared.{is_still, is_still_for, parts_still, parts_still_for, step_still}
+use Rattle.mq_law_manager.proofs.Each.{kept_behind, parts_behind, parts_keep, parts_weaker, step_weaker}
+use Rattle.mq_law_node.proofs.Quiet.{step_parts}
+use Rattle.mq_law_seized.specs.Seized.{is_bare, step_bare}
+use Rattle.mq_law_unshared.specs.Unshared.{is_still, is_still_for, parts_still, parts_still_for}
 
 -- LISTS
 pub for_behind : (c : List ℕ) (xs ys : List Part) → parts_still_for c xs ≡ true → parts_still_for c ys ≡ true → parts_still_for c (xs ++ ys) ≡ true
 for_behind c xs ys a b = parts_behind (is_still_for c) xs ys a b
 
-for_one : (c : List ℕ) (x : Change) → is_still x ≡ true → is_still_for c x ≡ true
+pub for_one : (c : List ℕ) (x : Change) → is_still x ≡ true → is_still_for c x ≡ true
 for_one c (Unseize other) e = absurd cc
 for_one c ForgetAll e = absurd cc
 for_one c x e = refl
@@ -89,13 +89,5 @@ bare_still (Unseize channel) e = absurd cc
 bare_still ForgetAll e = absurd cc
 bare_still c e = refl
 
-pub bare_still_parts : (parts : List Part) → parts_bare parts ≡ true → parts_still parts ≡ true
-bare_still_parts parts e = parts_weaker is_bare is_still bare_still parts e
-
 pub bare_parts : {F T : Type 0} (s : Step F T) → step_bare s ≡ true → parts_still (parts_of s) ≡ true
-bare_parts (Refuse reason) e = refl
-bare_parts (Do reply parts) e = bare_still_parts parts e
-
-pub step_parts : {F T : Type 0} (s : Step F T) → step_still s ≡ true → parts_still (parts_of s) ≡ true
-step_parts (Refuse reason) e = refl
-step_parts (Do reply parts) e = e
+bare_parts s e = step_parts is_still s (step_weaker is_bare is_still bare_still s e)
