@@ -1,6 +1,5 @@
 -- An object command does what its record says, in a sound manager; so its write makes a crash harmless.
 use Rattle.std.proofs.Common.{ℕ, ◌≡◌, Bool, true, false, List, [], ◌∷◌, ◌++◌, refl, ap, sym, ◌∙◌, length, arith, inl, inr, ◌⊎◌}
-use Rattle.std.proofs.lemmas.Bool.{and_parts, not-false}
 use Rattle.std.specs.Prelude.{Option, Some, None, Result, Ok, Err, is_some, not, ◌&&◌, ◌||◌, filter, if◌then◌else◌}
 use Rattle.mq_queue.specs.declared.row.Row.{Row}
 use Rattle.mq_objects.specs.declared.object.LocalQueue.{LocalQueue}
@@ -44,7 +43,7 @@ use Rattle.mq_spec_log.specs.Applies.{agrees, has_rows_on, same_form, can_replac
 use Rattle.mq_law_manager.specs.Facts.{IsSound}
 use Rattle.mq_law_manager.proofs.Lists.{bool_case}
 use Rattle.mq_law_manager.proofs.Objects.{object_is, found_object, new_space, new_name, all_alike, defined_alike}
-use Rattle.mq_law_manager.proofs.StockCommands.{has_no_rows, used_alike, given_alike, no_left}
+use Rattle.mq_law_manager.proofs.StockCommands.{has_no_rows, used_alike, given_alike, both_true, not_false, no_left}
 use Rattle.mq_law_log.specs.Keeps.{SwitchesAt, has_queue}
 use Rattle.mq_law_log.specs.Restarts.{StepHarmless}
 use Rattle.mq_law_log.proofs.Shelves.{shelf_found}
@@ -121,7 +120,7 @@ agree_on false b e = ap (λ (x : Bool). agrees x false) (sym e)
 
 formed : (a b : LocalQueue) → (same_usage a.usage b.usage && same_delivery a.delivery b.delivery) ≡ true → same_form b a ≡ true
 formed a b e =
-    let k = and_parts (same_usage a.usage b.usage) (same_delivery a.delivery b.delivery) e in
+    let k = both_true (same_usage a.usage b.usage) (same_delivery a.delivery b.delivery) e in
     let u = agree_on (is_transmission a.usage) (is_transmission b.usage) (used_alike a.usage b.usage k.0) in
     let d = agree_on (is_by_priority a.delivery) (is_by_priority b.delivery) (given_alike a.delivery b.delivery k.1) in
     λ i. u i && d i
@@ -215,7 +214,7 @@ define_good p d (Some old) h e =
     let new : Object = defined_object d.subject d.settings in
     row_good p (not d.replace || not (is_kind d.subject old)) refusals.Exists _ (λ k.
     changed_good p false old new false h (found_as d.subject new (Some old) p (a.space ∙ new_space d.subject) (a.name ∙ new_name d.subject) e)
-    (rank_kind d.subject old (not-false (is_kind d.subject old) (no_left (not d.replace) (not (is_kind d.subject old)) k)) ∙ sym (rank_all d.settings (set_all (filter is_type_setting d.settings) (new_object d.subject)) ∙ rank_all (filter is_type_setting d.settings) (new_object d.subject))) (λ s. absurd cc))
+    (rank_kind d.subject old (not_false (is_kind d.subject old) (no_left (not d.replace) (not (is_kind d.subject old)) k)) ∙ sym (rank_all d.settings (set_all (filter is_type_setting d.settings) (new_object d.subject)) ∙ rank_all (filter is_type_setting d.settings) (new_object d.subject))) (λ s. absurd cc))
 
 switched_local : (old : Object) (ss : List Setting) → switches_on old ss ≡ true → rank old ≡ 0
 switched_local (objects.Local q) ss e = refl
@@ -251,7 +250,7 @@ delete_good : (p : Plain) (d : Delete) (o : Option Object) → named d.subject p
 delete_good p d None e = tt
 delete_good p d (Some old) e = row_good p (not (is_kind d.subject old)) refusals.Missing _ (λ k. row_good p (is_on_path old (uses_of p) || is_sent_from old (uses_of p) || is_busy old (uses_of p)) refusals.InUse _
     (λ n. row_good p (is_filled old (uses_of p)) refusals.NotEmpty _ (λ f.
-    let kind : is_kind d.subject old ≡ true = not-false (is_kind d.subject old) k in
+    let kind : is_kind d.subject old ≡ true = not_false (is_kind d.subject old) k in
     let empty : is_empty_local d.subject (lasting p).shelves ≡ true = emptied d.subject old p e kind f in
     record { can = ap (λ (o : Option Object). can_delete d.subject o (lasting p).shelves) e ∙ (λ i. kind i && empty i); switches = tt })))
 

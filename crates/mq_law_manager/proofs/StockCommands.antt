@@ -1,6 +1,5 @@
 -- Rows and uncommitted puts stay on queues that are defined: by commands on objects.
 use Rattle.std.proofs.Common.{ℕ, ◌≡◌, ◌+◌, Bool, true, false, List, [], ◌∷◌, ◌++◌, refl, ap, sym, subst, ◌∙◌, length, arith, inl, inr}
-use Rattle.std.proofs.lemmas.Bool.{and_parts, not-false}
 use Rattle.std.specs.Prelude.{Option, Some, None, Result, Ok, Err, is_some, if◌then◌else◌, not, ◌&&◌, ◌||◌, nat_lt, ◌==◌, count_by, filter, map}
 use Rattle.std.specs.Str.{bytes_eq}
 use Rattle.std.specs.List.{list_any}
@@ -115,6 +114,10 @@ pub no_left : (a b : Bool) → (a || b) ≡ false → b ≡ false
 no_left true b e = absurd cc
 no_left false b e = e
 
+pub not_false : (b : Bool) → not b ≡ false → b ≡ true
+not_false true e = refl
+not_false false e = absurd cc
+
 -- an object that a command sets, found by the subject that the command names
 set_as : (s : Subject) (new : Object) (o : Option Object) (p : Plain) (P : Object → Type 0) → space_of new ≡ subject_space s → name_of new ≡ subject_name s → named s p.definitions ≡ o → ((old : Object) → o ≡ Some old → P old)
     → (old : Object) → object_in (space_of new) (name_of new) p.definitions.objects ≡ Some old → P old
@@ -128,7 +131,7 @@ define_fits p d (Some old) e =
     let a = defined_alike d.subject d.settings in
     row_fits p (not d.replace || not (is_kind d.subject old)) refusals.Exists _ (λ k.
     changed_fits p false old (defined_object d.subject d.settings) false (set_as d.subject (defined_object d.subject d.settings) (Some old) p (λ x. (is_local (defined_object d.subject d.settings) ≡ is_local x) × (old ≡ x)) (a.space ∙ new_space d.subject) (a.name ∙ new_name d.subject) e
-    (λ x f. (a.local ∙ kind_local d.subject old (not-false (is_kind d.subject old) (no_left (not d.replace) (not (is_kind d.subject old)) k)) ∙ ap is_local (ap (object_or old) f), ap (object_or old) f))))
+    (λ x f. (a.local ∙ kind_local d.subject old (not_false (is_kind d.subject old) (no_left (not d.replace) (not (is_kind d.subject old)) k)) ∙ ap is_local (ap (object_or old) f), ap (object_or old) f))))
 
 good_fits : (p : Plain) (a : Alter) (old : Object) (o : Option Keyword) → named a.subject p.definitions ≡ Some old → PlanFits p (alter_good o a old (uses_of p))
 good_fits p a old (Some keyword) e = tt
@@ -148,7 +151,7 @@ no_either true b c e = absurd cc
 delete_fits : (p : Plain) (d : Delete) (o : Option Object) → named d.subject p.definitions ≡ o → PlanFits p (delete_at d o (uses_of p))
 delete_fits p d None e = tt
 delete_fits p d (Some old) e = row_fits p (not (is_kind d.subject old)) refusals.Missing _ (λ k. row_fits p (is_on_path old (uses_of p) || is_sent_from old (uses_of p) || is_busy old (uses_of p)) refusals.InUse _
-    (λ n. row_fits p (is_filled old (uses_of p)) refusals.NotEmpty _ (λ f. record { old = old; found = e; kind = not-false (is_kind d.subject old) k; filled = f; path = no_either (is_on_path old (uses_of p)) (is_sent_from old (uses_of p)) (is_busy old (uses_of p)) n })))
+    (λ n. row_fits p (is_filled old (uses_of p)) refusals.NotEmpty _ (λ f. record { old = old; found = e; kind = not_false (is_kind d.subject old) k; filled = f; path = no_either (is_on_path old (uses_of p)) (is_sent_from old (uses_of p)) (is_busy old (uses_of p)) n })))
 
 abbrev AllFit : Plain → Result Plan ScRefusal → Type 0
 AllFit p (Ok (plans.Change planned)) = Fits planned.change planned.reroutes p
@@ -294,13 +297,18 @@ used_alike a b e = bool_case (is_transmission a) (λ t. (if t then is_transmissi
 pub given_alike : (a b : Delivery) → same_delivery a b ≡ true → is_by_priority a ≡ is_by_priority b
 given_alike a b e = bool_case (is_by_priority a) (λ t. (if t then is_by_priority b else not (is_by_priority b)) ≡ true → t ≡ is_by_priority b) (λ z w. sym w) (λ z w. bool_case (is_by_priority b) (λ t. not t ≡ true → false ≡ t) (λ y v. absurd cc) (λ y v. refl) w) e
 
+pub both_true : (a b : Bool) → (a && b) ≡ true → (a ≡ true) × (b ≡ true)
+both_true true true e = (refl, refl)
+both_true true false e = absurd cc
+both_true false b e = absurd cc
+
 formed_alike : (h : Row) (a b : LocalQueue) → same_form a b ≡ true → IsFormed (Some a) h → IsFormed (Some b) h
 formed_alike h a b e f =
-    let k = and_parts (same_usage a.usage b.usage) (same_delivery a.delivery b.delivery) e in
+    let k = both_true (same_usage a.usage b.usage) (same_delivery a.delivery b.delivery) e in
     record { routed = f.routed ∙ used_alike a.usage b.usage k.0; lane = f.lane ∙ ap (λ (t : Bool). if t then lane_at h.message.md.priority else 0) (given_alike a.delivery b.delivery k.1) }
 
 routed_alike : (m : Message) (a b : LocalQueue) → same_form a b ≡ true → IsRoutedOn (Some a) m → IsRoutedOn (Some b) m
-routed_alike m a b e f = f ∙ used_alike a.usage b.usage (and_parts (same_usage a.usage b.usage) (same_delivery a.delivery b.delivery) e).0
+routed_alike m a b e f = f ∙ used_alike a.usage b.usage (both_true (same_usage a.usage b.usage) (same_delivery a.delivery b.delivery) e).0
 
 objects_routed : (new : Object) (p : Plain) → IsStocked p → IsChanged new p → IsRouted (objects_set new p)
 objects_routed new p s h = record {

@@ -30,9 +30,9 @@ use Rattle.mq_law_node.proofs.Named.{bool_case}
 use Rattle.mq_calls.specs.declared.commands.ScRefusal.TheVariants as refusals
 use Rattle.mq_objects.specs.declared.command.Command.{Command}
 use Rattle.mq_sc_apply.specs.Commands.{plan}
-use Rattle.mq_law_manager.specs.Each.{IsCommon, is_common}
-use Rattle.mq_law_manager.proofs.CommonCalls.{follows_common, removal_common}
-use Rattle.mq_law_manager.proofs.Each.{all_weaker, parts_behind, parts_weaker, step_weaker}
+use Rattle.mq_law_seized.specs.Each.{IsCommon, is_common}
+use Rattle.mq_law_seized.proofs.CommonCalls.{follows_common, removal_common}
+use Rattle.mq_law_seized.proofs.Each.{all_weaker, parts_behind, parts_weaker, step_weaker}
 use Rattle.mq_law_manager.proofs.ShortSteps.{going_all, live_all, open_all, tested_all}
 
 -- what is common is a call's

@@ -45,7 +45,7 @@ use Rattle.mq_spec_node.specs.Status.{shown, status_line, is_asked}
 use Rattle.mq_spec_node.specs.Happens.{get_done, got_deed, get_deed, command_deed, obey_deed, trigger_deed_of, trigger_deed, handler_turn, turn_up, where_up, deed_of}
 use Rattle.mq_law_node.specs.Quiet.{is_call, parts_call, step_call, IsCallDeed, EachCall, IsQuietDeed, EachQuiet, IsCommandQuiet, IsTurnQuiet, IsOrdinary}
 use Rattle.mq_law_node.proofs.Named.{bool_case}
-use Rattle.mq_law_manager.proofs.CommonCalls.{discard_common, move_common, mqback_common, mqclose_common, mqcmit_common, mqconn_common, mqdisc_common, mqput1_common, mqput_common, trigger_common}
+use Rattle.mq_law_seized.proofs.CommonCalls.{discard_common, move_common, mqback_common, mqclose_common, mqcmit_common, mqconn_common, mqdisc_common, mqput1_common, mqput_common, trigger_common}
 use Rattle.mq_law_node.proofs.Calls as calls_of
 use Rattle.mq_frame.specs.declared.frame.Frame.{Frame}
 use Rattle.mq_sync.specs.declared.data.SenderData.{SenderData}

@@ -15,8 +15,8 @@ use Rattle.mq_calls.specs.Condition.{condition}
 use Rattle.mq_calls.specs.Steps.{Part, do_all, logged}
 use Rattle.mq_spec_manager.specs.Agents.{queue_of_sender, seized_queue}
 use Rattle.mq_law_manager.proofs.Lists.{bool_case, name_yes}
-use Rattle.mq_law_manager.specs.Each.{is_common, is_written}
-use Rattle.mq_law_manager.proofs.Each.{kept_behind, parts_behind, parts_keep, parts_weaker}
+use Rattle.mq_law_seized.specs.Each.{is_common, is_written}
+use Rattle.mq_law_seized.proofs.Each.{kept_behind, parts_behind, parts_keep, parts_weaker}
 use Rattle.mq_law_queued.specs.Queued.{is_bare, is_calm, is_calm_for, parts_bare, parts_calm, parts_calm_for}
 use Rattle.mq_law_manager.proofs.Named.{batch_set, found_named, named_set}
 

@@ -17,7 +17,7 @@ use Rattle.mq_calls.specs.State.Running.{Up}
 use Rattle.mq_calls.specs.Reads.{batch_of}
 use Rattle.mq_calls.specs.Steps.{Part, Step}
 use Rattle.mq_spec_manager.specs.Agents.{queue_of_sender}
-use Rattle.mq_law_manager.specs.Each.{all_of, parts_of_all, step_of_all}
+use Rattle.mq_law_seized.specs.Each.{all_of, parts_of_all, step_of_all}
 use Rattle.mq_spec_node.specs.Node.{ChannelEnd, Node, Own, SenderEnd}
 use Rattle.mq_spec_node.specs.Node.ChannelEnd.{Sends}
 use Rattle.mq_spec_node.specs.Deeds.{Deed}

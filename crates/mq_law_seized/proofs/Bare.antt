@@ -6,10 +6,10 @@ use Rattle.mq_calls.specs.State.{Plain, Change}
 use Rattle.mq_calls.specs.State.Change.{ChangeObjects, Connect, ForgetAll, Hold, Leave, OpenHandle, Place, Release, Seize, SetReceiver, SetSender, Try, Undoubt, Unseize}
 use Rattle.mq_calls.specs.Steps.{Step, Part}
 use Rattle.mq_spec_manager.specs.Get.{removal_parts}
-use Rattle.mq_law_manager.specs.Each.{IsCommon, is_common, is_written}
+use Rattle.mq_law_seized.specs.Each.{IsCommon, is_common, is_written}
 use Rattle.mq_law_manager.specs.Kept.{StepKeeps}
-use Rattle.mq_law_manager.proofs.CommonCalls.{removal_common}
-use Rattle.mq_law_manager.proofs.Each.{parts_weaker, step_weaker}
+use Rattle.mq_law_seized.proofs.CommonCalls.{removal_common}
+use Rattle.mq_law_seized.proofs.Each.{parts_weaker, step_weaker}
 use Rattle.mq_law_seized.specs.Seized.{AreSeized, is_bare, is_plain, parts_bare, parts_plain, step_bare}
 use Rattle.mq_law_seized.proofs.Changing.{step_leaves}
 

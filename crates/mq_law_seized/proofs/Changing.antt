@@ -27,8 +27,8 @@ use Rattle.mq_law_manager.specs.View.{view}
 use Rattle.mq_law_manager.proofs.Lists.{bool_case, mem_append, mem_inserted_at, mem_keep, mem_retag}
 use Rattle.mq_law_manager.proofs.Removals.{mem_filter}
 use Rattle.mq_law_manager.proofs.SeenLaws.{applied}
-use Rattle.mq_law_manager.specs.Each.{has_none}
-use Rattle.mq_law_manager.proofs.Each.{all_keep, parts_keep, step_keeps}
+use Rattle.mq_law_seized.specs.Each.{has_none}
+use Rattle.mq_law_seized.proofs.Each.{all_keep, parts_keep, step_keeps}
 use Rattle.mq_law_seized.specs.Seized.{AreSeized, all_plain, is_plain, parts_plain, step_plain, strays}
 
 -- LISTS

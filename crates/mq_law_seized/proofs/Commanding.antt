@@ -38,9 +38,9 @@ use Rattle.mq_spec_manager.specs.Commands.{command, follows, planned_step, uses_
 use Rattle.mq_spec_manager.specs.Handles.{is_transmission_queue}
 use Rattle.mq_law_manager.specs.Facts.{AreOnce, IsSound, Mem, is_local}
 use Rattle.mq_law_manager.specs.Kept.{StepKeeps}
-use Rattle.mq_law_manager.specs.Each.{is_common}
-use Rattle.mq_law_manager.proofs.CommonCalls.{follows_common}
-use Rattle.mq_law_manager.proofs.Each.{all_weaker}
+use Rattle.mq_law_seized.specs.Each.{is_common}
+use Rattle.mq_law_seized.proofs.CommonCalls.{follows_common}
+use Rattle.mq_law_seized.proofs.Each.{all_weaker}
 use Rattle.mq_law_manager.proofs.Lists.{bool_case, name_self, name_yes}
 use Rattle.mq_law_manager.proofs.Commanding.{object_name}
 use Rattle.mq_law_manager.proofs.Objects.{all_alike, defined_alike, delete_found, found_object, kind_local, new_name, new_space, object_is, same_space_is, set_found}

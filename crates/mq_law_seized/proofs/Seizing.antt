@@ -29,10 +29,10 @@ use Rattle.mq_spec_manager.specs.Handles.{is_transmission_queue}
 use Rattle.mq_spec_manager.specs.Agents.{CanHold, HasSeized, channel_queue, expire, harden, hold_batch, leave, prepare, prepare_of, prepared_changes, prepared_record, queue_of_sender, receive, release_batch, release_of, seize, seized_queue, set_bound, expired_rows}
 use Rattle.mq_law_manager.specs.Facts.{Mem}
 use Rattle.mq_law_manager.specs.Kept.{StepKeeps}
-use Rattle.mq_law_manager.specs.Each.{is_written}
-use Rattle.mq_law_manager.proofs.Each.{step_weaker}
+use Rattle.mq_law_seized.specs.Each.{is_written}
+use Rattle.mq_law_seized.proofs.Each.{step_weaker}
 use Rattle.mq_law_manager.proofs.ShortSteps.{tested_all}
-use Rattle.mq_law_manager.proofs.Written.{harden_written, receive_written}
+use Rattle.mq_law_seized.proofs.Written.{harden_written, receive_written}
 use Rattle.mq_law_manager.proofs.Lists.{bool_case, name_self, name_yes}
 use Rattle.mq_law_seized.specs.Seized.{AreSeized, is_bare, step_bare}
 use Rattle.mq_law_seized.proofs.Calling.{holds, tested_keeps, tests_none}

@@ -11,7 +11,7 @@ use Rattle.mq_calls.specs.Reads.{has_held_by_other, is_input, leads_to, read_by_
 use Rattle.mq_calls.specs.Steps.{Part, Step}
 use Rattle.mq_spec_manager.specs.Handles.{is_transmission_queue}
 use Rattle.mq_spec_manager.specs.Put.{queue_at}
-use Rattle.mq_law_manager.specs.Each.{all_of, has_none, parts_of_all, step_of_all}
+use Rattle.mq_law_seized.specs.Each.{all_of, has_none, parts_of_all, step_of_all}
 use Rattle.mq_law_manager.specs.Facts.{Mem}
 
 -- a handle that is open for input, but not of a queue here

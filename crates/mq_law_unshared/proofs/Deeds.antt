@@ -14,9 +14,9 @@ use Rattle.mq_spec_node.specs.Node.{Node}
 use Rattle.mq_spec_node.specs.Deeds.{parts_of}
 use Rattle.mq_spec_node.specs.Happens.{deed_of}
 use Rattle.mq_law_manager.specs.Facts.{IsSound}
-use Rattle.mq_law_manager.specs.Each.{IsCommon}
+use Rattle.mq_law_seized.specs.Each.{IsCommon}
 use Rattle.mq_law_manager.specs.Kept.{AllKeep, StepKeeps}
-use Rattle.mq_law_manager.proofs.CommonCalls.{discard_common, move_common, mqback_common, mqclose_common, mqcmit_common, mqconn_common, mqdisc_common, mqput1_common, mqput_common, trigger_common}
+use Rattle.mq_law_seized.proofs.CommonCalls.{discard_common, move_common, mqback_common, mqclose_common, mqcmit_common, mqconn_common, mqdisc_common, mqput1_common, mqput_common, trigger_common}
 use Rattle.mq_law_node.specs.Quiet.{IsOrdinary}
 use Rattle.mq_law_seized.specs.Seized.{AreSeized}
 use Rattle.mq_law_seized.proofs.Bare.{common_leaves}

@@ -44,7 +44,7 @@ use Rattle.mq_spec_node.specs.Receivers.{bind_parts, close_parts, is_receiver_de
 use Rattle.mq_spec_node.specs.Senders.{after_timeout, doubted, leave_if_stopped, prepare_deed, sender_deed, sender_deed_by, timeout_deed}
 use Rattle.mq_law_manager.specs.Kept.{AllKeep, StepKeeps}
 use Rattle.mq_law_manager.proofs.Lists.{bool_case}
-use Rattle.mq_law_manager.proofs.Each.{kept_behind, parts_behind}
+use Rattle.mq_law_seized.proofs.Each.{kept_behind, parts_behind}
 use Rattle.mq_law_seized.specs.Seized.{AreSeized, is_plain, parts_plain}
 use Rattle.mq_law_seized.proofs.Changing.{parts_leave}
 use Rattle.mq_law_seized.proofs.Bare.{parts_bare_plain, removal_bare}

@@ -47,7 +47,7 @@ use Rattle.mq_law_seized.proofs.Seizing.{prepare_bare, release_bare}
 use Rattle.mq_law_unshared.specs.Unshared.{AreOpen, parts_still, parts_still_for, is_still, is_still_for}
 use Rattle.mq_law_unshared.proofs.Stills.{bare_parts, for_behind, for_parts, parts_have, set_there, for_one}
 use Rattle.mq_sync.specs.declared.unit.Settle.TheVariants as settles
-use Rattle.mq_law_manager.specs.Each.{is_common, is_written}
+use Rattle.mq_law_seized.specs.Each.{is_common, is_written}
 use Rattle.mq_law_node.specs.Deeds.{HoldsBehind}
 use Rattle.mq_law_keys.proofs.Keeping.{EachThere, end_there}
 use Rattle.mq_law_unshared.specs.Senders.{AreEach, IsLeftBy, IsOpen}

@@ -45,11 +45,11 @@ use Rattle.mq_spec_node.specs.Deeds.{Deed, parts_of}
 use Rattle.mq_spec_node.specs.Operators.{close_open, is_bad_number, is_in_doubt, is_open, limits_here, operated, refused_or, reset_end, resolve_doubt, resolve_end, start_end, stop_end}
 use Rattle.mq_spec_node.specs.Receivers.{bind_parts, close_parts, is_receiver_defined, place_deed, receiver_deed, receiver_deed_by}
 use Rattle.mq_spec_node.specs.Senders.{doubted, sender_deed, sender_deed_by, settle_parts_if}
-use Rattle.mq_law_manager.specs.Each.{is_common, is_written, parts_of_all}
-use Rattle.mq_law_manager.proofs.CommonCalls.{removal_common}
-use Rattle.mq_law_manager.proofs.Each.{all_weaker, parts_behind, parts_weaker, step_weaker}
+use Rattle.mq_law_seized.specs.Each.{is_common, is_written, parts_of_all}
+use Rattle.mq_law_seized.proofs.CommonCalls.{removal_common}
+use Rattle.mq_law_seized.proofs.Each.{all_weaker, parts_behind, parts_weaker, step_weaker}
 use Rattle.mq_law_manager.proofs.Lists.{bool_case, is_false, name_yes}
-use Rattle.mq_law_manager.proofs.Written.{harden_written, receive_written}
+use Rattle.mq_law_seized.proofs.Written.{harden_written, receive_written}
 use Rattle.mq_law_node.proofs.Quiet.{step_parts}
 use Rattle.mq_law_node.proofs.Named.{nat_self, nat_yes}
 use Rattle.mq_law_node.specs.Deeds.{HoldsBehind}

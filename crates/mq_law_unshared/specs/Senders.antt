@@ -7,7 +7,7 @@ use Rattle.mq_calls.specs.Steps.{Part, do_all}
 use Rattle.mq_spec_manager.specs.Agents.{HasSeized}
 use Rattle.mq_spec_node.specs.Node.{ChannelEnd, SenderEnd}
 use Rattle.mq_spec_node.specs.Node.ChannelEnd.{Sends}
-use Rattle.mq_law_manager.specs.Each.{is_common, is_written, parts_of_all}
+use Rattle.mq_law_seized.specs.Each.{is_common, is_written, parts_of_all}
 
 abbrev pub AreEach : (SenderEnd → Plain → Type 0) → List ChannelEnd → Plain → Type 0
 AreEach holds es p = (e : SenderEnd) → Mem (Sends e) es → holds e p

@@ -11,7 +11,7 @@ use Rattle.mq_spec_node.specs.Node.{ChannelEnd, Node, SenderEnd}
 use Rattle.mq_spec_node.specs.Node.ChannelEnd.{Sends}
 use Rattle.mq_spec_node.specs.Deeds.{Deed}
 use Rattle.mq_base.specs.Members.{Mem}
-use Rattle.mq_law_manager.specs.Each.{all_of, parts_of_all, step_of_all}
+use Rattle.mq_law_seized.specs.Each.{all_of, parts_of_all, step_of_all}
 use Rattle.mq_law_manager.specs.Kept.{AllKeep}
 use Rattle.mq_law_seized.specs.Seized.{AreSeized}
 use Rattle.mq_law_unshared.specs.Ordinary.{EachHas}

@@ -2,7 +2,7 @@ use Rattle.mq_calls.specs.Reads.{is_up, stored}
 use Rattle.std.specs.Prelude.{Some}
 use Rattle.mq_spec_manager.specs.Triggers.{trigger_turn}
 use Rattle.mq_spec_manager.specs.Agents.{discard, move_row, row_with}
-use Rattle.mq_law_manager.proofs.CommonCalls.{discard_common, move_common, trigger_common}
+use Rattle.mq_law_seized.proofs.CommonCalls.{discard_common, move_common, trigger_common}
 use Rattle.mq_law_seized.proofs.Bare.{common_leaves}
 use Rattle.mq_law_seized.proofs.Seizing as seizing
 use Rattle.mq_law_seized.proofs.agents_leave_seized_queues.Goals as goal

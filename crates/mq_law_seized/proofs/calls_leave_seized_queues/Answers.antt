@@ -2,7 +2,7 @@ use Rattle.mq_spec_manager.specs.Handles.{mqclose, mqconn}
 use Rattle.mq_spec_manager.specs.Put.{mqput, mqput1}
 use Rattle.mq_spec_manager.specs.Units.{mqback, mqcmit, mqdisc}
 use Rattle.mq_law_seized.proofs.Calling as calling
-use Rattle.mq_law_manager.proofs.CommonCalls.{mqback_common, mqclose_common, mqcmit_common, mqconn_common, mqdisc_common, mqput1_common, mqput_common}
+use Rattle.mq_law_seized.proofs.CommonCalls.{mqback_common, mqclose_common, mqcmit_common, mqconn_common, mqdisc_common, mqput1_common, mqput_common}
 use Rattle.mq_law_seized.proofs.Bare.{common_leaves}
 use Rattle.mq_law_seized.proofs.calls_leave_seized_queues.Goals as goal
 

@@ -15,8 +15,8 @@ use Rattle.mq_calls.specs.Sizes.{need}
 use Rattle.mq_calls.specs.Steps.{when}
 use Rattle.mq_spec_manager.specs.Landing.{Landing, land}
 use Rattle.mq_spec_manager.specs.Agents.{Absent, InDoubtAt, Landed, Present, Standing, before, drop_changes, harden_part, is_present, land_changes, landed, landed_by, landed_unless, receive_landed, received_record, standing_at, undoubted, receive}
-use Rattle.mq_law_manager.specs.Each.{all_written, is_written, step_of_all}
-use Rattle.mq_law_manager.proofs.Each.{all_behind}
+use Rattle.mq_law_seized.specs.Each.{all_written, is_written, step_of_all}
+use Rattle.mq_law_seized.proofs.Each.{all_behind}
 use Rattle.mq_law_manager.proofs.ShortSteps.{tested_all}
 
 pub harden_written : (channel : List ℕ) (note : Note) (p : Plain) → all_written (harden_part channel note p).changes ≡ true

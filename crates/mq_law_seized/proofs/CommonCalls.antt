@@ -45,8 +45,8 @@ use Rattle.mq_resolve.specs.declared.route.PathStep.{PathStep}
 use Rattle.mq_sc_apply.specs.declared.answers.Planned.{Planned}
 use Rattle.mq_resolve.specs.declared.route.PathStep.TheVariants as steps
 use Rattle.mq_spec_manager.specs.Commands.{follows, renewed, renewed_if, stale_if, switched_if, dropped}
-use Rattle.mq_law_manager.specs.Each.{IsCommon, all_common, is_common, parts_common}
-use Rattle.mq_law_manager.proofs.Each.{all_behind}
+use Rattle.mq_law_seized.specs.Each.{IsCommon, all_common, is_common, parts_common}
+use Rattle.mq_law_seized.proofs.Each.{all_behind}
 use Rattle.mq_law_manager.proofs.ShortSteps.{live_all, open_all, tested_all}
 
 -- handles

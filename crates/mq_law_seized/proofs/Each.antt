@@ -7,7 +7,7 @@ use Rattle.mq_calls.specs.State.{Change, Plain}
 use Rattle.mq_calls.specs.Changes.{apply, apply_all}
 use Rattle.mq_calls.specs.Steps.{Part, Step, do_all, do_part, logged}
 use Rattle.mq_calls.specs.Steps.Step.{Do, Refuse}
-use Rattle.mq_law_manager.specs.Each.{all_of, parts_of_all, step_of_all}
+use Rattle.mq_law_seized.specs.Each.{all_of, parts_of_all, step_of_all}
 use Rattle.mq_law_manager.specs.Kept.{AllKeep, StepKeeps}
 
 -- one behind another
