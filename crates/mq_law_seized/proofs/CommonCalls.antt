@@ -172,4 +172,3 @@ follows_common (changes.Set new) planned d = all_behind is_common (renewed new d
     (switched_common planned.switches_on (name_of new))
 follows_common (changes.SetManager m) planned d = stale_common planned.reroutes steps.DefXmitq
 follows_common (changes.Delete subject) planned d = dropped_common subject
-
