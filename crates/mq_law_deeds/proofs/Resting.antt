@@ -21,7 +21,7 @@ use Rattle.mq_spec_node.specs.Deeds.{Deed}
 use Rattle.mq_spec_node.specs.Receivers.{place_deed, receiver_deed_by}
 use Rattle.mq_law_node.specs.Ends.{Where}
 use Rattle.mq_law_node.specs.Quiet.{EachQuiet, is_quiet, parts_apart, parts_quiet}
-use Rattle.mq_law_manager.proofs.Each.{parts_weaker}
+use Rattle.mq_law_seized.proofs.Each.{parts_weaker}
 use Rattle.mq_law_node.proofs.Named.{bool_case}
 use Rattle.mq_law_node.proofs.DataLaws.{batch_done_all}
 use Rattle.mq_law_node.proofs.Aside.{EachApart, batch_parts_apart}

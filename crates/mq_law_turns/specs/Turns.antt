@@ -33,7 +33,7 @@ use Rattle.mq_law_manager.specs.Facts.{IsSound}
 use Rattle.mq_law_manager.specs.Kept.{AllKeep}
 use Rattle.mq_law_events.specs.Posting.{IsTimed}
 use Rattle.mq_law_receipts.specs.Receipts.{AreNumbered, IsCabled, Receipt}
-use Rattle.mq_law_manager.specs.Each.{all_of, parts_of_all}
+use Rattle.mq_law_seized.specs.Each.{all_of, parts_of_all}
 
 -- a network and its ledger, with what the proof follows beside them, and one channel: its sender's and its receiver's manager, and
 -- where its end stands
