@@ -1,5 +1,5 @@
 -- Each deed that is no turn or timeout of a sender's end is an operator's command on it, or leaves it alone.
-use Rattle.std.proofs.Common.{ℕ, ◌≡◌, ◌⊎◌, ◌-◌, Bool, true, false, List, [], ◌∷◌, ◌++◌, refl, sym, subst, inl, inr}
+use Rattle.std.proofs.Common.{◌∙◌, ℕ, ◌≡◌, ◌⊎◌, Bool, true, false, List, [], ◌∷◌, ◌++◌, refl, sym, subst, inl, inr}
 use Rattle.std.specs.Prelude.{Option, Some, None, if◌then◌else◌, not, ◌==◌, ◌||◌}
 use Rattle.std.specs.Str.{bytes_eq}
 use Rattle.mq_frame.specs.declared.frame.Seen.{Seen}
@@ -11,22 +11,17 @@ use Rattle.mq_sync.specs.Settlement.{receiver_or}
 use Rattle.mq_calls.specs.declared.agents.Note.TheVariants as notes
 use Rattle.mq_calls.specs.declared.agents.SeizeFault.{SeizeFault}
 use Rattle.mq_calls.specs.declared.agents.SeizeFault.TheVariants as seize_faults
-use Rattle.mq_sc_parse.specs.declared.command.Command.TheVariants as commands
 use Rattle.mq_sc_parse.specs.declared.command.Op.{Op}
 use Rattle.mq_sc_parse.specs.declared.command.Op.TheVariants as ops
 use Rattle.mq_history.specs.declared.acts.OpRefusal.{OpRefusal}
 use Rattle.mq_history.specs.declared.acts.OpRefusal.TheVariants as reasons
-use Rattle.mq_history.specs.declared.acts.Act.TheVariants as acts
 use Rattle.mq_history.specs.declared.calls.Actor.{Actor}
-use Rattle.mq_history.specs.declared.calls.Actor.TheVariants as actors
 use Rattle.mq_history.specs.declared.calls.Call.{Call}
-use Rattle.mq_history.specs.declared.calls.Call.TheVariants as calls
 use Rattle.mq_sender.specs.States as senders
 use Rattle.mq_sender.specs.Table.{sender_next}
 use Rattle.mq_receiver.specs.States as receivers
 use Rattle.mq_receiver.specs.Table.{receiver_next}
-use Rattle.mq_calls.specs.State.{Plain, Running}
-use Rattle.mq_calls.specs.State.Running.{Up, Down}
+use Rattle.mq_calls.specs.State.{Plain}
 use Rattle.mq_calls.specs.State.Change.{Seize}
 use Rattle.mq_calls.specs.Reads.{batch_of, has_held_by_other, in_doubt_of, is_open_for_input, is_up, receiver_data, sender_data}
 use Rattle.mq_calls.specs.Steps.{Step, Test, refusal, silent, when, refused_or as steps_refused_or}
@@ -39,12 +34,13 @@ use Rattle.mq_spec_node.specs.Deeds.{Deed, parts_of}
 use Rattle.mq_spec_node.specs.Senders.{after_timeout, sender_deed, timeout_deed}
 use Rattle.mq_spec_node.specs.Receivers.{is_receiver_defined, receiver_deed}
 use Rattle.mq_spec_node.specs.Operators.{close_open, end_here, is_bad_number, is_in_doubt, is_open, limits_here, operate, operate_up, refused_or, reset_end, resolve_doubt, resolve_end, start_end, start_seized, stop_end}
-use Rattle.mq_spec_node.specs.Happens.{deed_of, receiver_turn, sender_turn, timeout_of, where_up}
+use Rattle.mq_spec_node.specs.Happens.{deed_of, receiver_turn, sender_turn, timeout_of}
 use Rattle.mq_sender.specs.States.{awaits, timed_out}
 use Rattle.mq_law_channel.specs.Channel.{Channel}
 use Rattle.mq_law_node.specs.Beside.{DoesNear, EachDoes, KeyedNear, is_ours}
 use Rattle.mq_law_node.specs.Ends.{SendsAs, Where}
 use Rattle.mq_law_node.specs.Quiet.{IsOrdinary}
+use Rattle.mq_law_node.proofs.Deeds.{deed_has}
 use Rattle.mq_law_node.proofs.Named.{bool_case}
 use Rattle.mq_law_node.proofs.NearDoes.{here_case, named_case, near_does_all, option_case, reset_apart, reset_moves, reset_taking, resolve_apart, resolve_moves, start_apart, start_moves, start_taking, stop_apart, stop_moves, stop_taking}
 use Rattle.mq_law_node.proofs.Aside.{EachApart, timeouts_apart, turns_apart}
@@ -176,39 +172,20 @@ other_taking w stamp seen n c (Some e) =
     let d = receiver_next e.machine seen (is_receiver_defined e.channel n.manager.definitions) in
     rests w n c (receiver_deed stamp e seen n) (takes_rests w stamp e seen d n (receivers_others w.channel stamp e seen d n))
 
-up_known : (w : Where) (n : Node) (c : Channel) (r : Running) (o : Option Deed) → EachStill w n c o → EachStill w n c (where_up r o)
-up_known w n c Up o h = h
-up_known w n c (Down written starts) o h = tt
-
 ordinary : (w : Where) (stamp : ℕ) (actor : Actor) (call : Call) (seen : Seen) (n : Node) (c : Channel) → IsOrdinary actor call → EachStill w n c (deed_of stamp actor call seen n)
 ordinary w stamp actor call seen n c o = rests w n c (deed_of stamp actor call seen n) (quiet_rests w n (deed_of stamp actor call seen n) (ordinary_is_quiet stamp actor call seen n o))
 
 -- ALL DEEDS
 still_all : (w : Where) (stamp : ℕ) (actor : Actor) (call : Call) (seen : Seen) (n : Node) (c : Channel) → KeyedNear w n → SendsAs w n c → is_up n.manager.running ≡ true → is_ours w.cable actor call ≡ false
     → EachStill w n c (deed_of stamp actor call seen n)
-still_all w stamp actor (calls.Act (acts.Obey (commands.Operate op))) seen n c k h up other = operates w n c op k h up
-still_all w stamp actor (calls.Act (acts.Obey (commands.Objects x))) seen n c k h up other = ordinary w stamp actor (calls.Act (acts.Obey (commands.Objects x))) seen n c tt
-still_all w stamp actor (calls.Act (acts.Obey (commands.ShowStatus name any_end))) seen n c k h up other = ordinary w stamp actor (calls.Act (acts.Obey (commands.ShowStatus name any_end))) seen n c tt
-still_all w stamp (actors.Sender cable) calls.Turn seen n c k h up other = up_known w n c n.manager.running (sender_turn stamp (sender_end cable n.own) seen n) (other_turn w stamp seen n c (sender_end cable n.own) (λ e is. k.turns cable e is other))
-still_all w stamp (actors.Receiver cable) calls.Turn seen n c k h up other = up_known w n c n.manager.running (receiver_turn stamp (receiver_end cable n.own) seen n) (other_taking w stamp seen n c (receiver_end cable n.own))
-still_all w stamp (actors.Handler number) calls.Turn seen n c k h up other = ordinary w stamp (actors.Handler number) calls.Turn seen n c tt
-still_all w stamp (actors.Sender cable) calls.Timeout seen n c k h up other = up_known w n c n.manager.running (timeout_of (sender_end cable n.own) n) (other_timeout w n c (sender_end cable n.own) (λ e is. (k.turns cable e is other).0))
-still_all w stamp actor calls.Turn seen n c k h up other = up_known w n c n.manager.running None tt
-still_all w stamp actor calls.Timeout seen n c k h up other = up_known w n c n.manager.running None tt
-still_all w stamp actor (calls.Act acts.Crash) seen n c k h up other = tt
-still_all w stamp actor (calls.Act acts.Restart) seen n c k h up other = tt
-still_all w stamp actor (calls.Act (acts.Cut x)) seen n c k h up other = tt
-still_all w stamp actor (calls.Act (acts.Clock by)) seen n c k h up other = tt
-still_all w stamp actor (calls.Mqconn qmgr appl) seen n c k h up other = ordinary w stamp actor (calls.Mqconn qmgr appl) seen n c tt
-still_all w stamp actor (calls.Mqdisc hc) seen n c k h up other = ordinary w stamp actor (calls.Mqdisc hc) seen n c tt
-still_all w stamp actor (calls.Mqopen hc name qmgr how) seen n c k h up other = ordinary w stamp actor (calls.Mqopen hc name qmgr how) seen n c tt
-still_all w stamp actor (calls.Mqclose hc ho) seen n c k h up other = ordinary w stamp actor (calls.Mqclose hc ho) seen n c tt
-still_all w stamp actor (calls.Mqput hc ho md body sync) seen n c k h up other = ordinary w stamp actor (calls.Mqput hc ho md body sync) seen n c tt
-still_all w stamp actor (calls.Mqput1 hc name qmgr md body sync) seen n c k h up other = ordinary w stamp actor (calls.Mqput1 hc name qmgr md body sync) seen n c tt
-still_all w stamp actor (calls.Mqget hc ho get until) seen n c k h up other = ordinary w stamp actor (calls.Mqget hc ho get until) seen n c tt
-still_all w stamp actor (calls.Mqcmit hc) seen n c k h up other = ordinary w stamp actor (calls.Mqcmit hc) seen n c tt
-still_all w stamp actor (calls.Mqback hc) seen n c k h up other = ordinary w stamp actor (calls.Mqback hc) seen n c tt
-still_all w stamp actor calls.Trigger seen n c k h up other = ordinary w stamp actor calls.Trigger seen n c tt
+still_all w stamp actor call seen n c k h up other = deed_has (EachStill w n c) stamp actor call seen n (record {
+  none = tt;
+  ordinary = λ o. ordinary w stamp actor call seen n c o;
+  sends = λ cable f g. other_turn w stamp seen n c (sender_end cable n.own) (λ e is. k.turns cable e is ((λ i. is_ours w.cable (sym f i) (sym g i)) ∙ other));
+  takes = λ cable f g. other_taking w stamp seen n c (receiver_end cable n.own);
+  times = λ cable f g. other_timeout w n c (sender_end cable n.own) (λ e is. (k.turns cable e is ((λ i. is_ours w.cable (sym f i) (sym g i)) ∙ other)).0);
+  operates = λ op f. operates w n c op k h up;
+})
 
 known : (w : Where) (n : Node) (c : Channel) (o : Option Deed) → EachDoes w n c o → EachStill w n c o → EachKnown w n c o
 known w n c None does still = tt

@@ -1,6 +1,6 @@
 -- Deeds that aren't this end's own hold no row for its channel, and leave its batch.
-use Rattle.std.proofs.Common.{ℕ, ◌≡◌, Bool, true, List, [], ◌∷◌, ◌++◌, refl, ap, ◌∙◌}
-use Rattle.std.specs.Prelude.{Option, Some, None, Result, Ok, Err, ◌&&◌}
+use Rattle.std.proofs.Common.{ℕ, ◌≡◌, true, List, [], ◌∷◌, ◌++◌, refl, ◌∙◌}
+use Rattle.std.specs.Prelude.{Option, Some, None, Result, Ok, Err}
 use Rattle.mq_codes.specs.declared.reason.Reason.{Reason}
 use Rattle.mq_message.specs.declared.place.Holder.TheVariants as holders
 use Rattle.mq_frame.specs.declared.frame.Seen.{Seen}
@@ -19,9 +19,9 @@ use Rattle.mq_spec_manager.specs.Agents.{Landed, landed, receive_landed, receive
 use Rattle.mq_spec_node.specs.Node.{Node, ReceiverEnd}
 use Rattle.mq_spec_node.specs.Deeds.{Deed}
 use Rattle.mq_spec_node.specs.Receivers.{place_deed, receiver_deed_by}
-use Rattle.mq_law_channel.proofs.Told.{and_both}
 use Rattle.mq_law_node.specs.Ends.{Where}
-use Rattle.mq_law_node.specs.Quiet.{EachQuiet, all_quiet, is_quiet, parts_apart, parts_quiet}
+use Rattle.mq_law_node.specs.Quiet.{EachQuiet, is_quiet, parts_apart, parts_quiet}
+use Rattle.mq_law_seized.proofs.Each.{parts_weaker}
 use Rattle.mq_law_node.proofs.Named.{bool_case}
 use Rattle.mq_law_node.proofs.DataLaws.{batch_done_all}
 use Rattle.mq_law_node.proofs.Aside.{EachApart, batch_parts_apart}
@@ -29,7 +29,7 @@ use Rattle.mq_law_node.proofs.Quiet.{batch_parts_quiet}
 use Rattle.mq_law_node.proofs.AsideTakings.{QuietBatch, landed_batch}
 use Rattle.mq_law_node.proofs.Landings.{batch_changes}
 use Rattle.mq_law_node.proofs.ReceiverTurns.{placed_by}
-use Rattle.mq_law_turns.specs.Turns.{EachForOthers, all_for_others, is_for_others, parts_for_others}
+use Rattle.mq_law_turns.specs.Turns.{EachForOthers, is_for_others, parts_for_others}
 
 -- it holds no row for the channel, and leaves its batch
 abbrev pub Rests : Where → Node → Deed → Type 0
@@ -45,14 +45,8 @@ quiet_others channel (Hold which (holders.Batch other)) e = absurd cc
 quiet_others channel (Hold which (holders.Unit number)) e = refl
 quiet_others channel c e = refl
 
-all_quiet_others : (channel : List ℕ) (cs : List Change) → all_quiet cs ≡ true → all_for_others channel cs ≡ true
-all_quiet_others channel [] e = refl
-all_quiet_others channel (c ∷ cs) e = let b = and_both (is_quiet c) (all_quiet cs) e in ap (λ (t : Bool). t && all_for_others channel cs) (quiet_others channel c b.0) ∙ all_quiet_others channel cs b.1
-
 parts_quiet_others : (channel : List ℕ) (parts : List Part) → parts_quiet parts ≡ true → parts_for_others channel parts ≡ true
-parts_quiet_others channel [] e = refl
-parts_quiet_others channel (part ∷ parts) e = let b = and_both (all_quiet part.changes) (parts_quiet parts) e in
-    ap (λ (t : Bool). t && parts_for_others channel parts) (all_quiet_others channel part.changes b.0) ∙ parts_quiet_others channel parts b.1
+parts_quiet_others channel parts e = parts_weaker is_quiet (is_for_others channel) (quiet_others channel) parts e
 
 pub quiet_rests : (w : Where) (n : Node) (o : Option Deed) → EachQuiet n.own o → EachRests w n o
 quiet_rests w n None q = tt

@@ -12,12 +12,10 @@ use Rattle.mq_sync.specs.declared.data.End.TheVariants as end_kinds
 use Rattle.mq_calls.specs.declared.agents.Note.TheVariants as notes
 use Rattle.mq_calls.specs.declared.choices.Choice.{Choice}
 use Rattle.mq_calls.specs.declared.choices.Choice.TheVariants.{Runs, NoMemory, Stopped}
-use Rattle.mq_sc_parse.specs.declared.command.Command.TheVariants as lines
 use Rattle.mq_sc_parse.specs.declared.command.Op.TheVariants as ops
 use Rattle.mq_history.specs.declared.acts.Act.TheVariants as acts
 use Rattle.mq_history.specs.declared.acts.OpRefusal.TheVariants as reasons
 use Rattle.mq_history.specs.declared.calls.Actor.{Actor}
-use Rattle.mq_history.specs.declared.calls.Actor.TheVariants as actors
 use Rattle.mq_history.specs.declared.calls.Call.{Call}
 use Rattle.mq_history.specs.declared.calls.Call.TheVariants as calls
 use Rattle.mq_history.specs.declared.calls.Chance.{Chance}
@@ -29,11 +27,9 @@ use Rattle.mq_sender.specs.States as sent_states
 use Rattle.mq_receiver.specs.declared.turns.ReceiverDoes.TheVariants as takes
 use Rattle.mq_receiver.specs.declared.turns.ReceiverOut.TheVariants as taken_outs
 use Rattle.mq_receiver.specs.States as taken_states
-use Rattle.mq_calls.specs.State.Running.{Up, Down}
 use Rattle.mq_calls.specs.Steps.Outcome.{Answered, Refused, Wanting, Broken}
 use Rattle.mq_spec_manager.specs.Stops.{restart, stop}
-use Rattle.mq_spec_node.specs.Terms.{After, awaits, Do, harden, in_doubt_of, InDoubt, is_commit, is_up, Kept, last_by, number, number_sent, Op, OpRefusal, Outcome, Plain, prepare, PrepareFault, Reason, receive, Receiver, receiver_after, receiver_next, ReceiverDoes, ReceiverOut, refusal, Refuse, RestartFault, Running, seize, SeizeFault, Sender, sender_after, sender_data, sender_next, SenderDoes, SenderOut, Settle, Step, stock, Test, timed_out, when}
-use Rattle.mq_spec_node.specs.Terms.{Luw}
+use Rattle.mq_spec_node.specs.Terms.{After, awaits, Do, harden, in_doubt_of, InDoubt, is_commit, is_up, Kept, last_by, number, number_sent, Op, OpRefusal, Outcome, Plain, prepare, PrepareFault, Reason, receive, Receiver, receiver_after, receiver_next, ReceiverDoes, ReceiverOut, refusal, Refuse, RestartFault, seize, SeizeFault, Sender, sender_after, sender_data, sender_next, SenderDoes, SenderOut, Settle, Step, stock, Test, timed_out, when, Luw}
 use Rattle.mq_spec_node.specs.Node.{ChannelEnd, SenderEnd, ReceiverEnd, Node, receiver_end, receiver_named, sender_end, sender_named, with_end}
 use Rattle.mq_spec_node.specs.Node.ChannelEnd.{Sends, Receives}
 use Rattle.mq_spec_node.specs.Deeds.{Deed, done, end_at_rest, end_begun, parts_of}
@@ -41,9 +37,10 @@ use Rattle.mq_spec_node.specs.Openings.{resumed}
 use Rattle.mq_spec_node.specs.Senders as senders
 use Rattle.mq_spec_node.specs.Receivers as receivers
 use Rattle.mq_spec_node.specs.Operators as operators
-use Rattle.mq_spec_node.specs.Happens.{choice_event, deed_of, event, own_crashed, receiver_turn, remembered, restart_event, restarted_as, sender_turn, timeout_by, timeout_of, turn_up, where_up}
+use Rattle.mq_spec_node.specs.Happens.{choice_event, deed_of, event, own_crashed, receiver_turn, remembered, restart_event, restarted_as, sender_turn, timeout_of}
 use Rattle.mq_spec_node.specs.Replays.{after, done_by}
 use Rattle.mq_law_node.specs.Quiet.{EachQuiet}
+use Rattle.mq_law_node.proofs.Deeds.{deed_has}
 use Rattle.mq_law_node.proofs.NearTotal.{remembered_ends}
 use Rattle.mq_law_node.proofs.Ordinary.{ordinary_is_quiet}
 use Rattle.mq_law_keys.specs.Keys.{AreKeyed, EachKeeps, IsKeyed, Key, key_of, keys, Tag, tag_of, tags}
@@ -127,11 +124,11 @@ tested n ts d k = go (refusal ts)
     go None = k
     go (Some reason) = refl
 
-abbrev EachThere : Node → Option ChannelEnd → Type 0
+abbrev pub EachThere : Node → Option ChannelEnd → Type 0
 EachThere n None = Unit {0}
 EachThere n (Some e) = Mem e n.own.ends
 
-end_there : (channel : List ℕ) (n : Node) → EachThere n (operators.end_here channel n)
+pub end_there : (channel : List ℕ) (n : Node) → EachThere n (operators.end_here channel n)
 end_there channel n = at (channel_of channel n.manager.definitions)
   where
     sends_ : (o : Option SenderEnd) → sender_named channel n.own.ends ≡ o → EachThere n (elim o as (λ x. Option ChannelEnd) [ None ↦ None | Some e ↦ Some (Sends e) ])
@@ -197,45 +194,15 @@ quiet : (n : Node) (o : Option Deed) → EachQuiet n.own o → EachKeeps n o
 quiet n None q = tt
 quiet n (Some d) q = ap tags q.ends
 
-up : (n : Node) (r : Running) (o : Option Deed) → EachKeeps n o → EachKeeps n (where_up r o)
-up n Up o k = k
-up n (Down noted starts) o k = tt
-
-times : (n : Node) (actor : Actor) → IsKeyed n → EachKeeps n (timeout_by actor n)
-times n (actors.Sender j) h = times_out n j (sender_end j n.own) h refl
-times n (actors.Receiver j) h = tt
-times n (actors.Script j) h = tt
-times n (actors.Handler j) h = tt
-times n (actors.Monitor j) h = tt
-times n actors.Operator h = tt
-times n actors.Clock h = tt
-
 deeds : (stamp : ℕ) (actor : Actor) (call : Call) (seen : Seen) (n : Node) → IsKeyed n → EachKeeps n (deed_of stamp actor call seen n)
-deeds stamp (actors.Sender j) calls.Turn seen n h = up n n.manager.running (turn_up stamp (actors.Sender j) seen n) (sender_turns stamp n j (sender_end j n.own) seen h refl)
-deeds stamp (actors.Receiver j) calls.Turn seen n h = up n n.manager.running (turn_up stamp (actors.Receiver j) seen n) (receiver_turns stamp n j (receiver_end j n.own) seen h refl)
-deeds stamp (actors.Script j) calls.Turn seen n h = quiet n (deed_of stamp (actors.Script j) calls.Turn seen n) (ordinary_is_quiet stamp (actors.Script j) calls.Turn seen n tt)
-deeds stamp (actors.Handler j) calls.Turn seen n h = quiet n (deed_of stamp (actors.Handler j) calls.Turn seen n) (ordinary_is_quiet stamp (actors.Handler j) calls.Turn seen n tt)
-deeds stamp (actors.Monitor j) calls.Turn seen n h = quiet n (deed_of stamp (actors.Monitor j) calls.Turn seen n) (ordinary_is_quiet stamp (actors.Monitor j) calls.Turn seen n tt)
-deeds stamp actors.Operator calls.Turn seen n h = quiet n (deed_of stamp actors.Operator calls.Turn seen n) (ordinary_is_quiet stamp actors.Operator calls.Turn seen n tt)
-deeds stamp actors.Clock calls.Turn seen n h = quiet n (deed_of stamp actors.Clock calls.Turn seen n) (ordinary_is_quiet stamp actors.Clock calls.Turn seen n tt)
-deeds stamp actor calls.Timeout seen n h = up n n.manager.running (timeout_by actor n) (times n actor h)
-deeds stamp actor (calls.Act (acts.Obey (lines.Operate op))) seen n h = tested n (when (not (is_up n.manager.running)) reasons.Down ∷ []) (operators.operate_up op n) (operates n op h)
-deeds stamp actor (calls.Act (acts.Obey (lines.Objects c))) seen n h = quiet n (deed_of stamp actor (calls.Act (acts.Obey (lines.Objects c))) seen n) (ordinary_is_quiet stamp actor (calls.Act (acts.Obey (lines.Objects c))) seen n tt)
-deeds stamp actor (calls.Act (acts.Obey (lines.ShowStatus name any_end))) seen n h = quiet n (deed_of stamp actor (calls.Act (acts.Obey (lines.ShowStatus name any_end))) seen n) (ordinary_is_quiet stamp actor (calls.Act (acts.Obey (lines.ShowStatus name any_end))) seen n tt)
-deeds stamp actor (calls.Act acts.Crash) seen n h = tt
-deeds stamp actor (calls.Act acts.Restart) seen n h = tt
-deeds stamp actor (calls.Act (acts.Cut k)) seen n h = tt
-deeds stamp actor (calls.Act (acts.Clock by_)) seen n h = tt
-deeds stamp actor calls.Trigger seen n h = quiet n (deed_of stamp actor calls.Trigger seen n) (ordinary_is_quiet stamp actor calls.Trigger seen n tt)
-deeds stamp actor (calls.Mqconn qmgr appl) seen n h = quiet n (deed_of stamp actor (calls.Mqconn qmgr appl) seen n) (ordinary_is_quiet stamp actor (calls.Mqconn qmgr appl) seen n tt)
-deeds stamp actor (calls.Mqdisc hc) seen n h = quiet n (deed_of stamp actor (calls.Mqdisc hc) seen n) (ordinary_is_quiet stamp actor (calls.Mqdisc hc) seen n tt)
-deeds stamp actor (calls.Mqopen hc name qmgr how) seen n h = quiet n (deed_of stamp actor (calls.Mqopen hc name qmgr how) seen n) (ordinary_is_quiet stamp actor (calls.Mqopen hc name qmgr how) seen n tt)
-deeds stamp actor (calls.Mqclose hc ho) seen n h = quiet n (deed_of stamp actor (calls.Mqclose hc ho) seen n) (ordinary_is_quiet stamp actor (calls.Mqclose hc ho) seen n tt)
-deeds stamp actor (calls.Mqput hc ho md body sync) seen n h = quiet n (deed_of stamp actor (calls.Mqput hc ho md body sync) seen n) (ordinary_is_quiet stamp actor (calls.Mqput hc ho md body sync) seen n tt)
-deeds stamp actor (calls.Mqput1 hc name qmgr md body sync) seen n h = quiet n (deed_of stamp actor (calls.Mqput1 hc name qmgr md body sync) seen n) (ordinary_is_quiet stamp actor (calls.Mqput1 hc name qmgr md body sync) seen n tt)
-deeds stamp actor (calls.Mqget hc ho get until) seen n h = quiet n (deed_of stamp actor (calls.Mqget hc ho get until) seen n) (ordinary_is_quiet stamp actor (calls.Mqget hc ho get until) seen n tt)
-deeds stamp actor (calls.Mqcmit hc) seen n h = quiet n (deed_of stamp actor (calls.Mqcmit hc) seen n) (ordinary_is_quiet stamp actor (calls.Mqcmit hc) seen n tt)
-deeds stamp actor (calls.Mqback hc) seen n h = quiet n (deed_of stamp actor (calls.Mqback hc) seen n) (ordinary_is_quiet stamp actor (calls.Mqback hc) seen n tt)
+deeds stamp actor call seen n h = deed_has (EachKeeps n) stamp actor call seen n (record {
+  none = tt;
+  ordinary = λ o. quiet n (deed_of stamp actor call seen n) (ordinary_is_quiet stamp actor call seen n o);
+  sends = λ j f g. sender_turns stamp n j (sender_end j n.own) seen h refl;
+  takes = λ j f g. receiver_turns stamp n j (receiver_end j n.own) seen h refl;
+  times = λ j f g. times_out n j (sender_end j n.own) h refl;
+  operates = λ op f. tested n (when (not (is_up n.manager.running)) reasons.Down ∷ []) (operators.operate_up op n) (operates n op h);
+})
 
 -- Each event
 
@@ -289,19 +256,7 @@ tag_events stamp actor (calls.Act acts.Crash) chance seen n h = crash_tags n (st
 tag_events stamp actor (calls.Act acts.Restart) chance seen n h = restarts n chance
 tag_events stamp actor (calls.Act (acts.Cut k)) chance seen n h = refl
 tag_events stamp actor (calls.Act (acts.Clock by_)) chance seen n h = refl
-tag_events stamp actor (calls.Act (acts.Obey c)) chance seen n h = deeds_next stamp actor (calls.Act (acts.Obey c)) chance seen n h
-tag_events stamp actor calls.Turn chance seen n h = deeds_next stamp actor calls.Turn chance seen n h
-tag_events stamp actor calls.Timeout chance seen n h = deeds_next stamp actor calls.Timeout chance seen n h
-tag_events stamp actor calls.Trigger chance seen n h = deeds_next stamp actor calls.Trigger chance seen n h
-tag_events stamp actor (calls.Mqconn qmgr appl) chance seen n h = deeds_next stamp actor (calls.Mqconn qmgr appl) chance seen n h
-tag_events stamp actor (calls.Mqdisc hc) chance seen n h = deeds_next stamp actor (calls.Mqdisc hc) chance seen n h
-tag_events stamp actor (calls.Mqopen hc name qmgr how) chance seen n h = deeds_next stamp actor (calls.Mqopen hc name qmgr how) chance seen n h
-tag_events stamp actor (calls.Mqclose hc ho) chance seen n h = deeds_next stamp actor (calls.Mqclose hc ho) chance seen n h
-tag_events stamp actor (calls.Mqput hc ho md body sync) chance seen n h = deeds_next stamp actor (calls.Mqput hc ho md body sync) chance seen n h
-tag_events stamp actor (calls.Mqput1 hc name qmgr md body sync) chance seen n h = deeds_next stamp actor (calls.Mqput1 hc name qmgr md body sync) chance seen n h
-tag_events stamp actor (calls.Mqget hc ho get until) chance seen n h = deeds_next stamp actor (calls.Mqget hc ho get until) chance seen n h
-tag_events stamp actor (calls.Mqcmit hc) chance seen n h = deeds_next stamp actor (calls.Mqcmit hc) chance seen n h
-tag_events stamp actor (calls.Mqback hc) chance seen n h = deeds_next stamp actor (calls.Mqback hc) chance seen n h
+tag_events stamp actor call chance seen n h = deeds_next stamp actor call chance seen n h
 
 -- and with the tags the keys
 tag_keys : (es : List ChannelEnd) → keys es ≡ map (λ (t : Tag). t.key) (tags es)

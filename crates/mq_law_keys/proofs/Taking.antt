@@ -12,20 +12,14 @@ use Rattle.mq_sync.specs.declared.unit.Settle.TheVariants as settles
 use Rattle.mq_sync.specs.Settlement.{receiver_or}
 use Rattle.mq_calls.specs.declared.agents.Note.TheVariants as notes
 use Rattle.mq_calls.specs.declared.agents.SeizeFault.{SeizeFault}
-use Rattle.mq_sc_parse.specs.declared.command.Command.TheVariants as commands
 use Rattle.mq_sc_parse.specs.declared.command.Op.{Op}
 use Rattle.mq_sc_parse.specs.declared.command.Op.TheVariants as ops
-use Rattle.mq_history.specs.declared.acts.Act.TheVariants as acts
 use Rattle.mq_history.specs.declared.acts.OpRefusal.{OpRefusal}
 use Rattle.mq_history.specs.declared.acts.OpRefusal.TheVariants as reasons
 use Rattle.mq_history.specs.declared.calls.Actor.{Actor}
-use Rattle.mq_history.specs.declared.calls.Actor.TheVariants as actors
 use Rattle.mq_history.specs.declared.calls.Call.{Call}
-use Rattle.mq_history.specs.declared.calls.Call.TheVariants as calls
 use Rattle.mq_sender.specs.States as senders
 use Rattle.mq_receiver.specs.States as receivers
-use Rattle.mq_calls.specs.State.{Running}
-use Rattle.mq_calls.specs.State.Running.{Up, Down}
 use Rattle.mq_calls.specs.Reads.{batch_of, in_doubt_of, is_up, receiver_data, sender_data}
 use Rattle.mq_calls.specs.Steps.{Step}
 use Rattle.mq_calls.specs.Steps.Step.{Refuse, Do}
@@ -36,15 +30,16 @@ use Rattle.mq_spec_node.specs.Deeds.{Deed, parts_of}
 use Rattle.mq_spec_node.specs.Operators.{close_open, end_here, is_bad_number, is_in_doubt, is_open, limits_here, operate, operate_up, operated, refused, refused_or, reset_end, resolve_doubt, resolve_end, start_end, start_seized, stop_end}
 use Rattle.mq_spec_node.specs.Receivers.{receiver_deed}
 use Rattle.mq_spec_node.specs.Senders.{sender_deed, timeout_deed}
-use Rattle.mq_spec_node.specs.Happens.{deed_of, receiver_turn, sender_turn, timeout_of, where_up}
+use Rattle.mq_spec_node.specs.Happens.{deed_of, receiver_turn, sender_turn, timeout_of}
 use Rattle.mq_law_channel.specs.Channel.{Channel, Past}
 use Rattle.mq_law_channel.specs.Turns as channel
 use Rattle.mq_law_node.specs.Data.{receives_at}
 use Rattle.mq_law_node.specs.Ends.{TakesAs, Where, receiver_of, told_receives}
 use Rattle.mq_law_node.specs.Moves.{FarStep}
 use Rattle.mq_law_node.specs.Nodes.{Single}
-use Rattle.mq_law_node.specs.Quiet.{EachQuiet, IsOrdinary, parts_far_apart, step_quiet}
+use Rattle.mq_law_node.specs.Quiet.{EachQuiet, parts_far_apart, step_quiet}
 use Rattle.mq_law_node.specs.Beside.{AsideFrom, DoesFar, Gone, is_ours_far}
+use Rattle.mq_law_node.proofs.Deeds.{deed_has}
 use Rattle.mq_law_node.proofs.FarAside.{EachAsideOf, EachFarApart, far_asides, parts_quiet_far, quiet_far_asides, receivers_far, release_far, senders_far, set_far, set_taking, timeouts_far}
 use Rattle.mq_law_node.proofs.Named.{bool_case}
 use Rattle.mq_law_node.proofs.NearDoes.{here_case, option_case}
@@ -221,36 +216,14 @@ other_taking : (w : Where) (stamp : ℕ) (seen : Seen) (n : Node) (c : Channel) 
 other_taking w stamp seen n c p None k = tt
 other_taking w stamp seen n c p (Some e) k = aside_does w n c p (receiver_deed stamp e seen n) (receivers_far w stamp e seen n (k e refl).0 (k e refl).1)
 
-up_does : (w : Where) (n : Node) (c : Channel) (p : Past) (r : Running) (o : Option Deed) → EachDoesFar w n c p o → EachDoesFar w n c p (where_up r o)
-up_does w n c p Up o h = h
-up_does w n c p (Down written starts) o h = tt
-
-ordinary_does : (w : Where) (stamp : ℕ) (actor : Actor) (call : Call) (seen : Seen) (n : Node) (c : Channel) (p : Past) → IsOrdinary actor call → EachDoesFar w n c p (deed_of stamp actor call seen n)
-ordinary_does w stamp actor call seen n c p o = quiet_does w n c p (deed_of stamp actor call seen n) (ordinary_is_quiet stamp actor call seen n o)
-
 -- All deeds
 pub far_does_all : (w : Where) (stamp : ℕ) (actor : Actor) (call : Call) (seen : Seen) (n : Node) (c : Channel) (p : Past) → KeyedFar w n → TakesAs w n c → is_up n.manager.running ≡ true → is_ours_far w.cable actor call ≡ false
     → EachDoesFar w n c p (deed_of stamp actor call seen n)
-far_does_all w stamp actor (calls.Act (acts.Obey (commands.Operate op))) seen n c p k h up other = operates w n c p op k h up
-far_does_all w stamp actor (calls.Act (acts.Obey (commands.Objects x))) seen n c p k h up other = ordinary_does w stamp actor (calls.Act (acts.Obey (commands.Objects x))) seen n c p tt
-far_does_all w stamp actor (calls.Act (acts.Obey (commands.ShowStatus name any_end))) seen n c p k h up other = ordinary_does w stamp actor (calls.Act (acts.Obey (commands.ShowStatus name any_end))) seen n c p tt
-far_does_all w stamp (actors.Sender cable) calls.Turn seen n c p k h up other = up_does w n c p n.manager.running (sender_turn stamp (sender_end cable n.own) seen n) (other_turn w stamp seen n c p (sender_end cable n.own) (λ e is. k.turns cable e is))
-far_does_all w stamp (actors.Receiver cable) calls.Turn seen n c p k h up other = up_does w n c p n.manager.running (receiver_turn stamp (receiver_end cable n.own) seen n) (other_taking w stamp seen n c p (receiver_end cable n.own) (λ e is. k.takings cable e is other))
-far_does_all w stamp (actors.Handler number) calls.Turn seen n c p k h up other = ordinary_does w stamp (actors.Handler number) calls.Turn seen n c p tt
-far_does_all w stamp (actors.Sender cable) calls.Timeout seen n c p k h up other = up_does w n c p n.manager.running (timeout_of (sender_end cable n.own) n) (other_timeout w n c p (sender_end cable n.own) (λ e is. k.turns cable e is))
-far_does_all w stamp actor calls.Turn seen n c p k h up other = up_does w n c p n.manager.running None tt
-far_does_all w stamp actor calls.Timeout seen n c p k h up other = up_does w n c p n.manager.running None tt
-far_does_all w stamp actor (calls.Act acts.Crash) seen n c p k h up other = tt
-far_does_all w stamp actor (calls.Act acts.Restart) seen n c p k h up other = tt
-far_does_all w stamp actor (calls.Act (acts.Cut x)) seen n c p k h up other = tt
-far_does_all w stamp actor (calls.Act (acts.Clock by_)) seen n c p k h up other = tt
-far_does_all w stamp actor (calls.Mqconn qmgr appl) seen n c p k h up other = ordinary_does w stamp actor (calls.Mqconn qmgr appl) seen n c p tt
-far_does_all w stamp actor (calls.Mqdisc hc) seen n c p k h up other = ordinary_does w stamp actor (calls.Mqdisc hc) seen n c p tt
-far_does_all w stamp actor (calls.Mqopen hc name qmgr how) seen n c p k h up other = ordinary_does w stamp actor (calls.Mqopen hc name qmgr how) seen n c p tt
-far_does_all w stamp actor (calls.Mqclose hc ho) seen n c p k h up other = ordinary_does w stamp actor (calls.Mqclose hc ho) seen n c p tt
-far_does_all w stamp actor (calls.Mqput hc ho md body sync) seen n c p k h up other = ordinary_does w stamp actor (calls.Mqput hc ho md body sync) seen n c p tt
-far_does_all w stamp actor (calls.Mqput1 hc name qmgr md body sync) seen n c p k h up other = ordinary_does w stamp actor (calls.Mqput1 hc name qmgr md body sync) seen n c p tt
-far_does_all w stamp actor (calls.Mqget hc ho get until) seen n c p k h up other = ordinary_does w stamp actor (calls.Mqget hc ho get until) seen n c p tt
-far_does_all w stamp actor (calls.Mqcmit hc) seen n c p k h up other = ordinary_does w stamp actor (calls.Mqcmit hc) seen n c p tt
-far_does_all w stamp actor (calls.Mqback hc) seen n c p k h up other = ordinary_does w stamp actor (calls.Mqback hc) seen n c p tt
-far_does_all w stamp actor calls.Trigger seen n c p k h up other = ordinary_does w stamp actor calls.Trigger seen n c p tt
+far_does_all w stamp actor call seen n c p k h up other = deed_has (EachDoesFar w n c p) stamp actor call seen n (record {
+  none = tt;
+  ordinary = λ o. quiet_does w n c p (deed_of stamp actor call seen n) (ordinary_is_quiet stamp actor call seen n o);
+  sends = λ cable f g. other_turn w stamp seen n c p (sender_end cable n.own) (λ e is. k.turns cable e is);
+  takes = λ cable f g. other_taking w stamp seen n c p (receiver_end cable n.own) (λ e is. k.takings cable e is ((λ i. is_ours_far w.cable (sym f i) (sym g i)) ∙ other));
+  times = λ cable f g. other_timeout w n c p (sender_end cable n.own) (λ e is. k.turns cable e is);
+  operates = λ op f. operates w n c p op k h up;
+})

@@ -16,7 +16,7 @@ use Rattle.mq_law_keys.specs.Keys.{AreKeyed, IsKeyed, Key, key_of, KeyedFar, key
 pub true_false : true ≡ false → ⊥
 true_false e = cc
 
-mem_keys : (x : ChannelEnd) (es : List ChannelEnd) → Mem x es → Mem (key_of x) (keys es)
+pub mem_keys : (x : ChannelEnd) (es : List ChannelEnd) → Mem x es → Mem (key_of x) (keys es)
 mem_keys x [] n = absurd n
 mem_keys x (e ∷ es) (inl z) = inl (ap key_of z)
 mem_keys x (e ∷ es) (inr n) = inr (mem_keys x es n)
@@ -82,10 +82,10 @@ set_tags new old (x ∷ es) h (inr n) c d =
 
 -- What is asked of the ends of a node for one of its senders' ends
 
-other_kind : (a : SenderEnd) (b : ReceiverEnd) → Sends a ≡ Receives b → ⊥
+pub other_kind : (a : SenderEnd) (b : ReceiverEnd) → Sends a ≡ Receives b → ⊥
 other_kind a b e = cc
 
-same_sender : (a b : SenderEnd) → Sends a ≡ Sends b → a ≡ b
+pub same_sender : (a b : SenderEnd) → Sends a ≡ Sends b → a ≡ b
 same_sender a b e = cc
 
 pub told_apart : (w : Where) (n : Node) (e : SenderEnd) → IsKeyed n → end_in w.cable n.own.ends ≡ Some (Sends e) → e.channel ≡ w.channel → KeyedNear w n

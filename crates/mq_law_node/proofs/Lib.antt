@@ -28,3 +28,4 @@ pub mod Sparing
 pub mod Openings
 pub mod FarAside
 pub mod NearDoes
+pub mod Deeds

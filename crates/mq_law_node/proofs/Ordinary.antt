@@ -16,7 +16,6 @@ use Rattle.mq_calls.specs.declared.answers.GetAnswer.{GetAnswer}
 use Rattle.mq_calls.specs.declared.commands.ScRefusal.{ScRefusal}
 use Rattle.mq_calls.specs.declared.commands.ScRefusal.TheVariants as refusals
 use Rattle.mq_calls.specs.declared.commands.Shown.{Shown}
-use Rattle.mq_sc_apply.specs.Commands.{plan}
 use Rattle.mq_sc_parse.specs.declared.command.Command.{Command}
 use Rattle.mq_sc_parse.specs.declared.command.Command.TheVariants as commands
 use Rattle.mq_history.specs.declared.acts.Act.TheVariants as acts
@@ -29,38 +28,35 @@ use Rattle.mq_history.specs.declared.calls.Reply.TheVariants as replies
 use Rattle.mq_history.specs.declared.acts.Acted.TheVariants as acted
 use Rattle.mq_calls.specs.State.{Plain, Running}
 use Rattle.mq_calls.specs.State.Running.{Up, Down}
-use Rattle.mq_calls.specs.Reads.{is_up}
-use Rattle.mq_calls.specs.Steps.{Step, Part, when}
+use Rattle.mq_calls.specs.Reads.{is_up, stored, sender_data, receiver_data}
+use Rattle.mq_calls.specs.Steps.{Step, Part, do_all}
 use Rattle.mq_calls.specs.Steps.Step.{Refuse, Do}
 use Rattle.mq_spec_manager.specs.Handles.{mqconn, mqopen, mqclose}
 use Rattle.mq_spec_manager.specs.Put.{mqput, mqput1}
 use Rattle.mq_spec_manager.specs.Get.{mqget}
 use Rattle.mq_spec_manager.specs.Units.{mqcmit, mqback, mqdisc}
-use Rattle.mq_spec_manager.specs.Commands.{command, planned_step, uses_of}
+use Rattle.mq_spec_manager.specs.Commands.{command}
 use Rattle.mq_spec_manager.specs.Triggers.{first_due, trigger_turn}
 use Rattle.mq_spec_manager.specs.Agents.{move_row, row_with, discard}
-use Rattle.mq_calls.specs.Reads.{stored}
-use Rattle.mq_spec_node.specs.Node.{Node, Own, Handler, handler_in}
-use Rattle.mq_spec_node.specs.Deeds.{Deed, told, parts_of, mqi_deed, ended_deed}
+use Rattle.mq_spec_node.specs.Node.{Node, Own, Handler, handler_in, end_in}
+use Rattle.mq_spec_node.specs.Deeds.{Deed, told, mqi_deed, ended_deed}
 use Rattle.mq_spec_node.specs.Handlers as handlers
 use Rattle.mq_spec_node.specs.Status.{shown, status_line, is_asked}
 use Rattle.mq_spec_node.specs.Happens.{get_done, got_deed, get_deed, command_deed, obey_deed, trigger_deed_of, trigger_deed, handler_turn, turn_up, where_up, deed_of}
-use Rattle.mq_law_node.specs.Quiet.{parts_call, step_call, IsCallDeed, EachCall, IsQuietDeed, EachQuiet, IsCommandQuiet, IsTurnQuiet, IsOrdinary}
+use Rattle.mq_law_node.specs.Quiet.{is_call, parts_call, step_call, IsCallDeed, EachCall, IsQuietDeed, EachQuiet, IsCommandQuiet, IsTurnQuiet, IsOrdinary}
 use Rattle.mq_law_node.proofs.Named.{bool_case}
+use Rattle.mq_law_seized.proofs.CommonCalls.{discard_common, move_common, mqback_common, mqclose_common, mqcmit_common, mqconn_common, mqdisc_common, mqput1_common, mqput_common, trigger_common}
 use Rattle.mq_law_node.proofs.Calls as calls_of
 use Rattle.mq_frame.specs.declared.frame.Frame.{Frame}
 use Rattle.mq_sync.specs.declared.data.SenderData.{SenderData}
 use Rattle.mq_sync.specs.declared.data.ReceiverData.{ReceiverData}
 use Rattle.mq_sender.specs.Table.{is_sending}
-use Rattle.mq_calls.specs.Reads.{sender_data, receiver_data}
-use Rattle.mq_calls.specs.Steps.{do_all}
 use Rattle.mq_sync.specs.Settlement.{sender_or, receiver_or}
-use Rattle.mq_spec_node.specs.Node.{end_in}
 use Rattle.mq_law_channel.specs.Channel.{Channel, Past}
 use Rattle.mq_law_node.specs.Ends.{Where, told_sends, told_receives, Reads, SendsAs, TakesAs, offering, Sent}
 use Rattle.mq_law_node.specs.Moves as near
 use Rattle.mq_law_node.specs.Moves.{FarStep, Moves, Goes}
-use Rattle.mq_law_node.proofs.Quiet.{sender_parts_quiet, receiver_parts_quiet, batch_parts_quiet, parts_call_quiet}
+use Rattle.mq_law_node.proofs.Quiet.{sender_parts_quiet, receiver_parts_quiet, batch_parts_quiet, parts_call_quiet, step_parts}
 use Rattle.mq_law_node.proofs.DataLaws.{batch_done_all}
 use Rattle.mq_law_node.proofs.SenderTurns.{leaves}
 use Rattle.mq_law_node.proofs.ReceiverTurns.{arrives}
@@ -89,10 +85,6 @@ command_is_call own (Do reply parts) h = record { parts = h; ends = refl; pushed
 pub told_is_call : (reply : Reply) (own : Own) → IsCallDeed own (told reply own)
 told_is_call reply own = record { parts = refl; ends = refl; pushed = refl }
 
-pub parts_are_call : {F T : Type 0} (s : Step F T) → step_call s ≡ true → parts_call (parts_of s) ≡ true
-parts_are_call (Refuse reason) h = refl
-parts_are_call (Do reply parts) h = h
-
 -- DISPLAY CHSTATUS
 pub shown_is_call : (own : Own) (any_end : Bool) (lines : List (List ℕ)) → IsCallDeed own (shown own any_end lines)
 shown_is_call own true [] = told_is_call _ own
@@ -108,10 +100,10 @@ moved_is_call queue m k rule tries h p own (Refuse reason) q = failed_is_call qu
 moved_is_call queue m k rule tries h p own (Do reply parts) q = record { parts = q; ends = refl; pushed = refl }
 
 pub acted_is_call : (queue : List ℕ) (m : Message) (k : ℕ) (rule : Rule) (action : Action) (tries : ℕ) (h : Handler) (p : Plain) (own : Own) → IsCallDeed own (handlers.acted queue m k rule action tries h p own)
-acted_is_call queue m k rule actions.Discard tries h p own = record { parts = parts_are_call (discard queue m.ident p) (calls_of.discard_call queue m.ident p); ends = refl; pushed = refl }
+acted_is_call queue m k rule actions.Discard tries h p own = record { parts = step_parts is_call (discard queue m.ident p) (calls_of.step_common (discard queue m.ident p) (discard_common queue m.ident p)); ends = refl; pushed = refl }
 acted_is_call queue m k rule actions.Ignore tries h p own = record { parts = refl; ends = refl; pushed = refl }
-acted_is_call queue m k rule actions.Retry tries h p own = moved_is_call queue m k rule tries h p own (move_row queue m.ident (handlers.retry_to m) true p) (calls_of.move_call queue (handlers.retry_to m) true (row_with (Some m.ident) (stored queue p).rows) p)
-acted_is_call queue m k rule (actions.Forward f) tries h p own = moved_is_call queue m k rule tries h p own (move_row queue m.ident (handlers.forward_to m f) (not f.header) p) (calls_of.move_call queue (handlers.forward_to m f) (not f.header) (row_with (Some m.ident) (stored queue p).rows) p)
+acted_is_call queue m k rule actions.Retry tries h p own = moved_is_call queue m k rule tries h p own (move_row queue m.ident (handlers.retry_to m) true p) (calls_of.step_common (move_row queue m.ident (handlers.retry_to m) true p) (move_common queue (handlers.retry_to m) true (row_with (Some m.ident) (stored queue p).rows) p))
+acted_is_call queue m k rule (actions.Forward f) tries h p own = moved_is_call queue m k rule tries h p own (move_row queue m.ident (handlers.forward_to m f) (not f.header) p) (calls_of.step_common (move_row queue m.ident (handlers.forward_to m f) (not f.header) p) (move_common queue (handlers.forward_to m f) (not f.header) (row_with (Some m.ident) (stored queue p).rows) p))
 
 pub ruled_is_call : (queue : List ℕ) (m : Message) (k : ℕ) (rule : Option Rule) (tries : ℕ) (h : Handler) (p : Plain) (own : Own) → IsCallDeed own (handlers.ruled queue m k rule tries h p own)
 ruled_is_call queue m k None tries h p own = record { parts = refl; ends = refl; pushed = refl }
@@ -136,16 +128,14 @@ handler_is_call (Some h) n = handler_on_call _ (handlers.input_queue h.table n.m
 -- triggers
 pub trigger_of_call : (q : Option LocalQueue) (n : Node) → EachCall n.own (trigger_deed_of q n)
 trigger_of_call None n = tt
-trigger_of_call (Some q) n = record { parts = parts_are_call (trigger_turn n.manager) (calls_of.trigger_call (is_up n.manager.running) n.manager); ends = refl; pushed = refl }
+trigger_of_call (Some q) n = record { parts = step_parts is_call (trigger_turn n.manager) (calls_of.step_common (trigger_turn n.manager) (trigger_common (is_up n.manager.running) n.manager)); ends = refl; pushed = refl }
 
 pub running_case : (r : Running) (P : Running → Type 0) → P Up → ((noted : _) (starts : ℕ) → P (Down noted starts)) → P r
 running_case Up P a b = a
 running_case (Down noted starts) P a b = b noted starts
 
 pub obeyed_is_call : (c : Command) (n : Node) → IsCommandQuiet c → IsCallDeed n.own (obey_deed c n)
-obeyed_is_call (commands.Objects c) n o = command_is_call n.own (command c n.manager)
-    (calls_of.tested_call (when (not (is_up n.manager.running)) refusals.Down ∷ []) (planned_step (plan c n.manager.given.name n.manager.definitions (uses_of n.manager)) n.manager.definitions)
-    (calls_of.planned_call (plan c n.manager.given.name n.manager.definitions (uses_of n.manager)) n.manager.definitions))
+obeyed_is_call (commands.Objects c) n o = command_is_call n.own (command c n.manager) (calls_of.command_call c n.manager)
 obeyed_is_call (commands.ShowStatus name any_end) n o = bool_case (is_up n.manager.running)
     (λ b. IsCallDeed n.own (if b then shown n.own any_end (map (status_line n.manager) (filter (is_asked name any_end) n.own.ends)) else told (replies.Acted (acted.Sc refusals.Down)) n.own))
     (λ e. shown_is_call n.own any_end (map (status_line n.manager) (filter (is_asked name any_end) n.own.ends)))
@@ -167,15 +157,15 @@ trigger_is_call n = where_up_call n.manager.running n.own (trigger_deed_of (firs
 
 -- ALL ORDINARY EVENTS
 pub ordinary_is_call : (stamp : ℕ) (actor : Actor) (call : Call) (seen : Seen) (n : Node) → IsOrdinary actor call → EachCall n.own (deed_of stamp actor call seen n)
-ordinary_is_call stamp actor (calls.Mqconn qmgr appl) seen n o = mqi_is_call (λ a. replies.Connected a) n.own (mqconn qmgr appl n.manager) (calls_of.mqconn_call qmgr appl n.manager)
-ordinary_is_call stamp actor (calls.Mqdisc hc) seen n o = ended_is_call (λ a. replies.Ended a) n.own (mqdisc hc n.manager) (calls_of.mqdisc_call hc n.manager)
+ordinary_is_call stamp actor (calls.Mqconn qmgr appl) seen n o = mqi_is_call (λ a. replies.Connected a) n.own (mqconn qmgr appl n.manager) (calls_of.step_common (mqconn qmgr appl n.manager) (mqconn_common qmgr appl n.manager))
+ordinary_is_call stamp actor (calls.Mqdisc hc) seen n o = ended_is_call (λ a. replies.Ended a) n.own (mqdisc hc n.manager) (calls_of.step_common (mqdisc hc n.manager) (mqdisc_common hc n.manager))
 ordinary_is_call stamp actor (calls.Mqopen hc name qmgr how) seen n o = mqi_is_call (λ a. replies.Opened a) n.own (mqopen hc name qmgr how n.manager) (calls_of.mqopen_call hc name qmgr how n.manager)
-ordinary_is_call stamp actor (calls.Mqclose hc ho) seen n o = ended_is_call (λ a. replies.Ended a) n.own (mqclose hc ho n.manager) (calls_of.mqclose_call hc ho n.manager)
-ordinary_is_call stamp actor (calls.Mqput hc ho md body sync) seen n o = mqi_is_call (λ a. replies.Put a) n.own (mqput hc ho md body sync n.manager) (calls_of.mqput_call hc ho md body sync n.manager)
-ordinary_is_call stamp actor (calls.Mqput1 hc name qmgr md body sync) seen n o = mqi_is_call (λ a. replies.Put a) n.own (mqput1 hc name qmgr md body sync n.manager) (calls_of.mqput1_call hc name qmgr md body sync n.manager)
+ordinary_is_call stamp actor (calls.Mqclose hc ho) seen n o = ended_is_call (λ a. replies.Ended a) n.own (mqclose hc ho n.manager) (calls_of.step_common (mqclose hc ho n.manager) (mqclose_common hc ho n.manager))
+ordinary_is_call stamp actor (calls.Mqput hc ho md body sync) seen n o = mqi_is_call (λ a. replies.Put a) n.own (mqput hc ho md body sync n.manager) (calls_of.step_common (mqput hc ho md body sync n.manager) (mqput_common hc ho md body sync n.manager))
+ordinary_is_call stamp actor (calls.Mqput1 hc name qmgr md body sync) seen n o = mqi_is_call (λ a. replies.Put a) n.own (mqput1 hc name qmgr md body sync n.manager) (calls_of.step_common (mqput1 hc name qmgr md body sync n.manager) (mqput1_common hc name qmgr md body sync n.manager))
 ordinary_is_call stamp actor (calls.Mqget hc ho get until) seen n o = get_is_call n.own (mqget hc ho get until n.manager) (calls_of.mqget_call hc ho get until n.manager)
-ordinary_is_call stamp actor (calls.Mqcmit hc) seen n o = ended_is_call (λ a. replies.Ended a) n.own (mqcmit hc n.manager) (calls_of.mqcmit_call hc n.manager)
-ordinary_is_call stamp actor (calls.Mqback hc) seen n o = ended_is_call (λ a. replies.Ended a) n.own (mqback hc n.manager) (calls_of.mqback_call hc n.manager)
+ordinary_is_call stamp actor (calls.Mqcmit hc) seen n o = ended_is_call (λ a. replies.Ended a) n.own (mqcmit hc n.manager) (calls_of.step_common (mqcmit hc n.manager) (mqcmit_common hc n.manager))
+ordinary_is_call stamp actor (calls.Mqback hc) seen n o = ended_is_call (λ a. replies.Ended a) n.own (mqback hc n.manager) (calls_of.step_common (mqback hc n.manager) (mqback_common hc n.manager))
 ordinary_is_call stamp actor (calls.Act (acts.Obey c)) seen n o = obeyed_is_call c n o
 ordinary_is_call stamp actor (calls.Act acts.Crash) seen n o = tt
 ordinary_is_call stamp actor (calls.Act acts.Restart) seen n o = tt

@@ -1,10 +1,9 @@
 -- Turns and timeouts of ends, and commands on them: a sender's batch is of the queue that it has open and lists each row once, and where it sends
 -- none it has none; a sender that runs keeps its limits.
-use Rattle.std.proofs.Common.{ℕ, zero, suc, ◌≡◌, ◌≤◌, ◌⊎◌, ◌-◌, Bool, true, false, List, [], ◌∷◌, ◌++◌, refl, ap, sym, subst, ◌∙◌, inl, inr}
-use Rattle.std.specs.Prelude.{Option, Some, None, ◌+◌, nat_lt, ◌==◌, ◌||◌, ◌&&◌, if◌then◌else◌, not}
+use Rattle.std.proofs.Common.{ℕ, zero, suc, ◌≡◌, ◌≤◌, ◌⊎◌, Bool, true, false, List, [], ◌∷◌, ◌++◌, refl, ap, sym, subst, ◌∙◌, inl, inr}
+use Rattle.std.specs.Prelude.{Option, Some, None, ◌+◌, nat_lt, ◌||◌, ◌&&◌, if◌then◌else◌, not, filter, take}
 use Rattle.std.specs.Str.{bytes_eq}
 use Rattle.mq_base.specs.Members.{AreDistinct, Mem}
-use Rattle.mq_codes.specs.declared.reason.Reason.{Reason}
 use Rattle.mq_frame.specs.declared.frame.Seen.{Seen}
 use Rattle.mq_message.specs.declared.message.Ident.{Ident}
 use Rattle.mq_queue.specs.declared.row.Row.{Row}
@@ -13,11 +12,9 @@ use Rattle.mq_objects.specs.declared.object.Channel.{Channel}
 use Rattle.mq_objects.specs.declared.object.ChannelKind.{ChannelKind}
 use Rattle.mq_objects.specs.declared.object.ChannelKind.TheVariants as kinds
 use Rattle.mq_objects.specs.Names.{channel_of, local_of}
-use Rattle.mq_sync.specs.declared.data.End.TheVariants as end_kinds
-use Rattle.mq_sync.specs.declared.data.InDoubt.{InDoubt}
 use Rattle.mq_sync.specs.declared.data.Stock.{Stock}
 use Rattle.mq_sync.specs.declared.unit.Settle.{Settle}
-use Rattle.mq_sync.specs.Settlement.{is_commit, receiver_or}
+use Rattle.mq_sync.specs.Settlement.{sender_or}
 use Rattle.mq_sync.specs.Units.{unit_named}
 use Rattle.mq_sender.specs.declared.state.Limits.{Limits}
 use Rattle.mq_sender.specs.declared.state.Sender.{Sender}
@@ -29,12 +26,7 @@ use Rattle.mq_sender.specs.declared.turns.SenderDoes.TheVariants as does
 use Rattle.mq_sender.specs.declared.turns.SenderOut.TheVariants as outs
 use Rattle.mq_sender.specs.After.{number_sent, sender_after}
 use Rattle.mq_sender.specs.States as senders
-use Rattle.mq_sender.specs.Table.{sender_lines, sender_next}
-use Rattle.mq_receiver.specs.declared.turns.ReceiverDoes.{ReceiverDoes}
-use Rattle.mq_receiver.specs.declared.turns.ReceiverDoes.TheVariants as takes
-use Rattle.mq_receiver.specs.After.{bound_by, last_by}
-use Rattle.mq_receiver.specs.States as receivers
-use Rattle.mq_receiver.specs.Table.{receiver_next}
+use Rattle.mq_sender.specs.Table.{sender_lines, sender_next, is_binding, is_hailing, is_idle, is_ready, is_sending, is_starting, is_waiting}
 use Rattle.mq_calls.specs.declared.agents.Note.TheVariants as notes
 use Rattle.mq_calls.specs.declared.agents.PrepareFault.{PrepareFault}
 use Rattle.mq_calls.specs.declared.agents.SeizeFault.{SeizeFault}
@@ -43,88 +35,44 @@ use Rattle.mq_calls.specs.declared.deltas.Why.TheVariants as whys
 use Rattle.mq_calls.specs.declared.state.Batch.{Batch}
 use Rattle.mq_sc_parse.specs.declared.command.Op.{Op}
 use Rattle.mq_sc_parse.specs.declared.command.Op.TheVariants as ops
-use Rattle.mq_history.specs.declared.acts.OpRefusal.{OpRefusal}
 use Rattle.mq_history.specs.declared.acts.OpRefusal.TheVariants as reasons
 use Rattle.mq_calls.specs.State.{Plain}
 use Rattle.mq_calls.specs.declared.state.Seizure.{Seizure}
 use Rattle.mq_calls.specs.State.Change.{Seize}
-use Rattle.mq_calls.specs.Reads.{batch_of, has_held_by_other, in_doubt_of, is_open_for_input, is_up, receiver_data, sender_data}
-use Rattle.mq_calls.specs.Steps.{Part, Step, do_all, refusal, refused_or as step_or, silent, when}
+use Rattle.mq_calls.specs.Reads.{batch_of, has_held_by_other, is_open_for_input, is_up, sender_data, free_rows, is_full, stored}
+use Rattle.mq_calls.specs.Steps.{Part, Step, do_all, refusal, refused_or as step_or, silent, when, do_part}
 use Rattle.mq_calls.specs.Steps.Step.{Do, Refuse}
 use Rattle.mq_spec_manager.specs.Get.{expired_parts}
 use Rattle.mq_spec_manager.specs.Handles.{is_transmission_queue}
-use Rattle.mq_spec_manager.specs.Agents.{channel_queue, expired_rows, harden, hold_batch, landed, leave, prepare, queue_of_sender, receive, release_of, seize, set_bound, stock}
-use Rattle.mq_spec_node.specs.Node.{ChannelEnd, Node, ReceiverEnd, SenderEnd, cable_of, receiver_named, sender_named, set_end, with_end}
+use Rattle.mq_spec_manager.specs.Agents.{channel_queue, expired_rows, harden, hold_batch, leave, prepare, queue_of_sender, release_of, seize, stock, prepare_of, prepared_changes, prepared_record}
+use Rattle.mq_spec_node.specs.Node.{ChannelEnd, Node, ReceiverEnd, SenderEnd, receiver_named, sender_named, with_end}
 use Rattle.mq_spec_node.specs.Node.ChannelEnd.{Receives, Sends}
 use Rattle.mq_spec_node.specs.Deeds.{Deed, parts_of}
 use Rattle.mq_spec_node.specs.Operators as operators
-use Rattle.mq_spec_node.specs.Operators.{close_open, is_bad_number, is_in_doubt, is_open, kind_limits, limits_here, limits_of, operate_up, operated, refused_or, reset_end, resolve_doubt, resolve_end, start_end, start_seized, stop_end}
-use Rattle.mq_spec_node.specs.Receivers.{bind_parts, close_parts, is_receiver_defined, place_deed, receiver_deed, receiver_deed_by}
-use Rattle.mq_spec_node.specs.Senders.{after_timeout, doubted, leave_if_stopped, prepare_deed, sender_deed, sender_deed_by, settle_parts, settle_parts_if, timeout_deed}
+use Rattle.mq_spec_node.specs.Operators.{kind_limits, limits_here, limits_of, operate_up, refused_or, start_end, start_seized, stop_end}
+use Rattle.mq_spec_node.specs.Senders.{after_timeout, leave_if_stopped, prepare_deed, sender_deed, sender_deed_by, settle_parts, settle_parts_if, timeout_deed}
 use Rattle.mq_law_manager.specs.Facts.{Differ, ident_of}
-use Rattle.mq_law_manager.proofs.Lists.{bool_case, is_false, name_yes}
-use Rattle.mq_law_node.proofs.Named.{nat_self, nat_yes}
-use Rattle.mq_law_keys.specs.Keys.{AreKeyed, IsKeyed, key_of, keys}
-use Rattle.mq_law_keys.proofs.Telling.{one_channel, receiver_mem, sender_mem}
+use Rattle.mq_law_manager.proofs.Lists.{bool_case, name_yes, name_self}
+use Rattle.mq_law_keys.specs.Keys.{IsKeyed}
+use Rattle.mq_law_keys.proofs.Telling.{receiver_mem, sender_mem}
 use Rattle.mq_calls.specs.declared.agents.PrepareFault.TheVariants as prepare_faults
 use Rattle.mq_calls.specs.declared.deltas.Did.TheVariants as did
 use Rattle.mq_sync.specs.declared.unit.Unit.{Unit as Luw}
-use Rattle.mq_sync.specs.Settlement.{sender_or}
-use Rattle.mq_sender.specs.Table.{is_binding, is_hailing, is_idle, is_ready, is_sending, is_starting, is_waiting}
-use Rattle.mq_calls.specs.Reads.{free_rows, is_full, stored}
 use Rattle.mq_calls.specs.Sizes.{need}
-use Rattle.mq_calls.specs.Steps.{do_part}
 use Rattle.mq_spec_manager.specs.Words.{idents_of}
-use Rattle.mq_spec_manager.specs.Agents.{prepare_of, prepared_changes, prepared_record}
-use Rattle.std.specs.Prelude.{filter, take}
-use Rattle.mq_law_manager.proofs.Lists.{name_self}
 use Rattle.mq_law_manager.proofs.Named.{batch_set}
 use Rattle.mq_law_channel.proofs.Told.{by_lines}
-use Rattle.mq_law_seized.proofs.Changing.{both_true}
-use Rattle.mq_law_unshared.proofs.Opening.{idles}
-use Rattle.mq_law_queued.specs.Queued.{AreQueued, HaveSome, IsKindSome, IsQueued, parts_bare, parts_calm, parts_calm_for}
-use Rattle.mq_law_queued.proofs.Calms.{Same, bare_behind, bare_parts, batch_at, batch_gone, for_behind, for_parts, harden_calm, landed_calm, parts_none, parts_same, receive_calm, removal_calm, step_parts}
+use Rattle.std.proofs.lemmas.Bool.{and_parts, true≢false}
+use Rattle.mq_law_queued.specs.Queued.{AreQueued, HaveSome, IsKindSome, IsQueued, parts_bare, parts_calm, parts_calm_for, is_calm, is_calm_for}
+use Rattle.mq_law_queued.proofs.Calms.{Same, bare_behind, bare_parts, batch_at, batch_gone, for_behind, for_parts, parts_none, parts_same, common_calm, for_one, written_calm}
+use Rattle.mq_sync.specs.declared.unit.Settle.TheVariants as settles
+use Rattle.mq_law_node.specs.Deeds.{HoldsBehind}
+use Rattle.mq_law_unshared.specs.Senders.{AreEach, IsLeftBy}
+use Rattle.mq_law_unshared.proofs.Senders.{awaits_runs, receiver_starts, receiver_stops, refused_each, removed, resets_each, resolves_each, set_each, settled, turn_has}
 
 -- behind a deed
 abbrev pub EachQueued : Node → Option Deed → Type 0
-EachQueued n None = Unit {0}
-EachQueued n (Some d) = AreQueued d.own.ends (do_all d.parts n.manager)
-
-true_false : true ≡ false → ⊥
-true_false e = cc
-
--- WHICH ENDS: one takes the place of the one that has its cable
-eq_back : (a b : ℕ) → (a == b) ≡ false → (b == a) ≡ false
-eq_back a b e = is_false (b == a) (λ f. true_false (sym (ap (λ k. k == b) (sym (nat_yes b a f)) ∙ nat_self b) ∙ e))
-
-mem_key : (x : ChannelEnd) (es : List ChannelEnd) → Mem x es → Mem (key_of x) (keys es)
-mem_key x [] n = absurd n
-mem_key x (e ∷ es) (inl z) = inl (ap key_of z)
-mem_key x (e ∷ es) (inr n) = inr (mem_key x es n)
-
-mem_set : (new old : ChannelEnd) (es : List ChannelEnd) (x : ChannelEnd) → AreKeyed (keys es) → Mem old es → cable_of new ≡ cable_of old → Mem x (set_end new es) → (x ≡ new) ⊎ (Mem x es × ((cable_of x == cable_of old) ≡ false))
-mem_set new old [] x h n c m = absurd n
-mem_set new old (y ∷ es) x h n c m = bool_case (cable_of y == cable_of new) (λ b. (cable_of y == cable_of new) ≡ b → Mem x (if b then new ∷ es else y ∷ set_end new es) → (x ≡ new) ⊎ (Mem x (y ∷ es) × ((cable_of x == cable_of old) ≡ false)))
-    (λ z w k. elim k [
-      | inl e ↦ inl e
-      | inr j ↦ inr (inr j, ap (λ v. cable_of x == v) (sym (nat_yes (cable_of y) (cable_of new) w ∙ c)) ∙ eq_back (cable_of y) (cable_of x) (h.0 (key_of x) (mem_key x es j)).0)
-    ])
-    (λ z w k. elim k [
-      | inl e ↦ inr (inl e, (λ i. cable_of (e i) == sym c i) ∙ w)
-      | inr j ↦ elim n [
-        | inl o ↦ absurd (true_false (sym (ap (λ v. v == cable_of new) (sym (ap cable_of o)) ∙ ap (λ v. v == cable_of new) (sym c) ∙ nat_self (cable_of new)) ∙ w))
-        | inr o ↦ elim (mem_set new old es x h.1 o c j) [ inl e ↦ inl e | inr r ↦ inr (inr r.0, r.1) ]
-      ]
-    ]) refl m
-
--- so another sender's end is of another channel
-other_channel : (n : Node) (e x : SenderEnd) → IsKeyed n → Mem (Sends e) n.own.ends → Mem (Sends x) n.own.ends → (x.cable == e.cable) ≡ false → bytes_eq x.channel e.channel ≡ false
-other_channel n e x h a b apart = is_false (bytes_eq x.channel e.channel) (λ f.
-    let same : Sends x ≡ Sends e = one_channel n.own.ends (Sends x) (Sends e) h b a (name_yes x.channel e.channel f) in
-    true_false (sym (ap (λ v. v == e.cable) (ap cable_of same) ∙ nat_self e.cable) ∙ apart))
-
-same_sender : (a b : SenderEnd) → Sends a ≡ Sends b → a ≡ b
-same_sender a b e = cc
+EachQueued n o = HoldsBehind (AreEach IsQueued) n o
 
 -- WHAT IS KNOWN OF ONE
 same_queued : (e : SenderEnd) (p q : Plain) → Same e.channel p q → IsQueued e p → IsQueued e q
@@ -165,28 +113,13 @@ limits_timed m = bool_case (senders.awaits m.state) (λ b. (if b then senders.tr
 big_enough : (a b : Limits) → b ≡ a → 1 ≤ a.batch_size → 1 ≤ b.batch_size
 big_enough a b same big = subst (λ (l : Limits). 1 ≤ l.batch_size) (sym same) big
 
+-- which changes leave it
+pub queued_left : IsLeftBy IsQueued is_calm is_calm_for
+queued_left = record { wider = for_one; kept = λ e parts p w h. same_queued e p (do_all parts p) (parts_same e.channel parts p w) h; common = common_calm; written = written_calm }
+
 set_queued : (n : Node) (e : SenderEnd) (m : Sender) (parts : List Part) → IsKeyed n → Mem (Sends e) n.own.ends → AreQueued n.own.ends n.manager → ((c : List ℕ) → bytes_eq c e.channel ≡ false → parts_calm_for c parts ≡ true)
     → IsQueued (record e { machine = m }) (do_all parts n.manager) → AreQueued (with_end (Sends (record e { machine = m })) n.own).ends (do_all parts n.manager)
-set_queued n e m parts h there q others mine x k = elim (mem_set (Sends (record e { machine = m })) (Sends e) n.own.ends (Sends x) h there refl k) [
-  | inl same ↦ subst (λ (v : SenderEnd). IsQueued v (do_all parts n.manager)) (sym (same_sender x (record e { machine = m }) same)) mine
-  | inr r ↦ same_queued x n.manager (do_all parts n.manager) (parts_same x.channel parts n.manager (others x.channel (other_channel n e x h there r.0 r.1))) (q x r.0)
-]
-
--- a receiver's end that changes
-not_sender : (x : SenderEnd) (y : ReceiverEnd) → Sends x ≡ Receives y → ⊥
-not_sender x y e = cc
-
-mem_beside : (y : ReceiverEnd) (es : List ChannelEnd) (x : SenderEnd) → Mem (Sends x) (set_end (Receives y) es) → Mem (Sends x) es
-mem_beside y [] x n = n
-mem_beside y (z ∷ es) x n = bool_case (cable_of z == y.cable) (λ b. Mem (Sends x) (if b then Receives y ∷ es else z ∷ set_end (Receives y) es) → Mem (Sends x) (z ∷ es))
-    (λ w k. elim k [ inl e ↦ absurd (not_sender x y e) | inr j ↦ inr j ])
-    (λ w k. elim k [ inl e ↦ inl e | inr j ↦ inr (mem_beside y es x j) ]) n
-
-pub calm_queued : (n : Node) (es : List ChannelEnd) (parts : List Part) → parts_calm parts ≡ true → AreQueued es n.manager → AreQueued es (do_all parts n.manager)
-calm_queued n es parts e q x k = same_queued x n.manager (do_all parts n.manager) (parts_same x.channel parts n.manager (for_parts x.channel parts e)) (q x k)
-
-beside_queued : (n : Node) (y : ReceiverEnd) (parts : List Part) → parts_calm parts ≡ true → AreQueued n.own.ends n.manager → AreQueued (with_end (Receives y) n.own).ends (do_all parts n.manager)
-beside_queued n y parts e q x k = calm_queued n n.own.ends parts e q x (mem_beside y n.own.ends x k)
+set_queued n e m parts h there q others mine = set_each IsQueued is_calm is_calm_for queued_left n e m parts h there q others mine
 
 -- LEAVING
 leave_for : (c e : List ℕ) (p : Plain) → bytes_eq c e ≡ false → parts_calm_for c (parts_of (leave e p)) ≡ true
@@ -221,15 +154,15 @@ Suits st (does.Backout reason) = is_sending st ≡ false
 Suits st _ = Unit {0}
 
 no_way : {P : Type 0} (b : Bool) → b ≡ true → b ≡ false → P
-no_way b e f = absurd (true_false (sym e ∙ f))
+no_way b e f = absurd (true≢false (sym e ∙ f))
 
 suits : (m : Sender) (seen : Seen) (st : Stock) → Suits m.state (sender_next m seen st)
 suits m seen st = by_lines (Suits m.state) does.Still (sender_lines m seen st) (
-  (λ z. off (λ k. no_way (is_binding m.state) (both_true _ _ z).0 k.0)),
+  (λ z. off (λ k. no_way (is_binding m.state) (and_parts _ _ z).0 k.0)),
   λ e0. (
-    (λ z. off (λ k. no_way (is_waiting m.state) (both_true _ _ z).0 k.1)),
+    (λ z. off (λ k. no_way (is_waiting m.state) (and_parts _ _ z).0 k.1)),
     λ e1. (
-      (λ z. off (λ k. no_way (is_waiting m.state) (both_true _ _ z).0 k.1)),
+      (λ z. off (λ k. no_way (is_waiting m.state) (and_parts _ _ z).0 k.1)),
       λ e2. (
         (λ z. tt),
         λ e3. (
@@ -292,7 +225,7 @@ let_go n e m h there q off =
     (λ c apart. for_behind c freed (parts_of (leave e.channel n.manager)) (release_for c e.channel o apart) (leave_for c e.channel n.manager apart))
     (none_queued (record e { machine = m }) (do_all (freed ++ parts_of (leave e.channel n.manager)) n.manager)
     (ap (batch_at e.channel) (do_behind freed (parts_of (leave e.channel n.manager)) n.manager) ∙ parts_none e.channel (parts_of (leave e.channel n.manager)) (do_all freed n.manager) refl (released e.channel n.manager o refl))
-    (λ on. absurd (true_false (sym on ∙ off))))
+    (λ on. absurd (true≢false (sym on ∙ off))))
 
 -- a prepared batch is the unit in doubt
 abbrev Prepares : List ℕ → Plain → Step PrepareFault (Unit {0}) → Type 0
@@ -361,7 +294,7 @@ begun_queued : (n : Node) (e : SenderEnd) (m : Sender) (unit : Luw) (count : ℕ
     → AreQueued (with_end (Sends (record e { machine = m })) n.own).ends (do_all (parts_of (hold_batch e.channel unit count n.manager)) n.manager)
 begun_queued n e m unit count h there q once big on =
     set_queued n e m (parts_of (hold_batch e.channel unit count n.manager)) h there q (λ c apart. ap (λ t. (not t && true) && true) apart) (record {
-      none = λ z. absurd (true_false (sym on ∙ z));
+      none = λ z. absurd (true≢false (sym on ∙ z));
       of = λ b k. sym (ap (λ (x : Batch). x.queue) (some_is new b (sym found ∙ k)));
       once = λ b k. subst (λ (x : Batch). AreDistinct x.idents) (some_is new b (sym found ∙ k)) (idents_once (take count (free_rows queue n.manager)) (take_differ count (free_rows queue n.manager) (filter_differ is_free (stored queue n.manager).rows (once queue))));
       some = λ z. big;
@@ -376,12 +309,8 @@ begun_queued n e m unit count h there q once big on =
     found : batch_at e.channel (do_all (parts_of (hold_batch e.channel unit count n.manager)) n.manager) ≡ Some new
     found = batch_set e.channel new n.manager.channels.batches ∙ ap (λ t. if t then Some new else batch_of e.channel n.manager.channels.batches) (name_self e.channel)
 
-harden_parts : (e : SenderEnd) (commit : Bool) (p : Plain) → parts_calm (parts_of (harden e.channel (notes.Resolved (doubted e.machine.kept.doubt) commit false) p)) ≡ true
-harden_parts e commit p = ap (λ b. b && true) (harden_calm e.channel (notes.Resolved (doubted e.machine.kept.doubt) commit false) p)
-
 settle_calm : (e : SenderEnd) (o : Option Settle) (p : Plain) → parts_calm (settle_parts_if e o p) ≡ true
-settle_calm e None p = refl
-settle_calm e (Some s) p = harden_parts e (is_commit s) p
+settle_calm e o p = settled IsQueued is_calm is_calm_for queued_left e o p
 
 turned_by : (stamp : ℕ) (n : Node) (e : SenderEnd) (d : SenderDoes) → IsKeyed n → Mem (Sends e) n.own.ends → AreQueued n.own.ends n.manager → ((name : List ℕ) → Differ ident_of (stored name n.manager).rows) → 1 ≤ e.machine.limits.batch_size
     → Suits e.machine.state d → EachQueued n (sender_deed_by stamp e d n)
@@ -389,25 +318,21 @@ turned_by stamp n e does.Still h there q once big off = tt
 turned_by stamp n e does.Ignore h there q once big off = q
 turned_by stamp n e (does.HardenSession session) h there q once big off = sent_none n e (does.HardenSession session) (parts_of (harden e.channel (notes.Session e.partner session) n.manager)) h there q off big refl
 turned_by stamp n e does.PushBind h there q once big off = sent_none n e does.PushBind [] h there q off big refl
-turned_by stamp n e does.Expire h there q once big off = sent_none n e does.Expire (expired_parts (queue_of_sender e.channel n.manager) (expired_rows (queue_of_sender e.channel n.manager) n.manager)) h there q off big (removal_calm whys.Expired (queue_of_sender e.channel n.manager) (expired_rows (queue_of_sender e.channel n.manager) n.manager))
+turned_by stamp n e does.Expire h there q once big off = sent_none n e does.Expire (expired_parts (queue_of_sender e.channel n.manager) (expired_rows (queue_of_sender e.channel n.manager) n.manager)) h there q off big (removed IsQueued is_calm is_calm_for queued_left whys.Expired (queue_of_sender e.channel n.manager) (expired_rows (queue_of_sender e.channel n.manager) n.manager))
 turned_by stamp n e (does.Begin k count) h there q once big off = begun_queued n e (sender_after e.machine (does.Begin k count) outs.Done) (unit_named e.machine.kept.session k) count h there q once big refl
 turned_by stamp n e (does.PushMsg index) h there q once big off =
-    set_queued n e (sender_after e.machine (does.PushMsg index) outs.Done) [] h there q (λ c apart. refl) (record { none = λ z. absurd (true_false z); of = (q e there).of; once = (q e there).once; some = λ z. big })
+    set_queued n e (sender_after e.machine (does.PushMsg index) outs.Done) [] h there q (λ c apart. refl) (record { none = λ z. absurd (true≢false z); of = (q e there).of; once = (q e there).once; some = λ z. big })
 turned_by stamp n e does.Prepare h there q once big off =
     prepares_queued n e (prepare e.channel (number_sent e.machine.state e.machine.kept.last) n.manager) h there q big (prepare_so e.channel (number_sent e.machine.state e.machine.kept.last) n.manager (batch_of e.channel n.manager.channels.batches) refl)
 turned_by stamp n e does.PushEnd h there q once big off = sent_none n e does.PushEnd [] h there q off big refl
 turned_by stamp n e (does.Bound settle partner) h there q once big off = sent_none n e (does.Bound settle partner) (settle_parts_if e settle n.manager) h there q off big (settle_calm e settle n.manager)
-turned_by stamp n e does.Commit h there q once big off = sent_none n e does.Commit (settle_parts e true n.manager) h there q off big (harden_parts e true n.manager)
-turned_by stamp n e (does.Backout reason) h there q once big off = sent_none n e (does.Backout reason) (settle_parts e false n.manager) h there q off big (harden_parts e false n.manager)
+turned_by stamp n e does.Commit h there q once big off = sent_none n e does.Commit (settle_parts e true n.manager) h there q off big (settle_calm e (Some settles.Commit) n.manager)
+turned_by stamp n e (does.Backout reason) h there q once big off = sent_none n e (does.Backout reason) (settle_parts e false n.manager) h there q off big (settle_calm e (Some settles.Backout) n.manager)
 
 pub sender_queued : (stamp : ℕ) (n : Node) (e : SenderEnd) (seen : Seen) → IsKeyed n → Mem (Sends e) n.own.ends → AreQueued n.own.ends n.manager → ((name : List ℕ) → Differ ident_of (stored name n.manager).rows)
     → EachQueued n (sender_deed stamp e seen n)
-sender_queued stamp n e seen h there q once = bool_case (senders.is_running e.machine.state) (λ b. senders.is_running e.machine.state ≡ b → EachQueued n (sender_deed stamp e seen n))
-    (λ z on. turned_by stamp n e (sender_next e.machine seen (stock e.channel n.manager)) h there q once ((q e there).some on) (suits e.machine seen (stock e.channel n.manager)))
-    (λ z off. elim (idles e.machine seen (stock e.channel n.manager) off) [
-      | inl w ↦ subst (λ (d : SenderDoes). EachQueued n (sender_deed_by stamp e d n)) (sym w) q
-      | inr w ↦ subst (λ (d : SenderDoes). EachQueued n (sender_deed_by stamp e d n)) (sym w) tt
-    ]) refl
+sender_queued stamp n e seen h there q once = turn_has (EachQueued n) stamp e seen n tt q
+    (λ on. turned_by stamp n e (sender_next e.machine seen (stock e.channel n.manager)) h there q once ((q e there).some on) (suits e.machine seen (stock e.channel n.manager)))
 
 -- A TIMEOUT
 awaits_off : (st : SenderState) → senders.awaits st ≡ true → is_sending st ≡ false
@@ -421,17 +346,6 @@ awaits_off states.Running e = refl
 awaits_off (states.Sending sent number) e = absurd cc
 awaits_off states.Ready e = refl
 
-awaits_on : (st : SenderState) → senders.awaits st ≡ true → senders.is_running st ≡ true
-awaits_on states.Binding e = refl
-awaits_on states.Waiting e = refl
-awaits_on states.Inactive e = absurd cc
-awaits_on (states.Stopped cause) e = absurd cc
-awaits_on states.Starting e = absurd cc
-awaits_on states.Hailing e = absurd cc
-awaits_on states.Running e = absurd cc
-awaits_on (states.Sending sent number) e = absurd cc
-awaits_on states.Ready e = absurd cc
-
 pub timeout_queued : (n : Node) (e : SenderEnd) → IsKeyed n → Mem (Sends e) n.own.ends → AreQueued n.own.ends n.manager → EachQueued n (timeout_deed e n)
 timeout_queued n e h there q = bool_case (senders.awaits e.machine.state) (λ b. senders.awaits e.machine.state ≡ b → EachQueued n (if b then Some (after_timeout e (senders.timed_out e.machine) n) else None))
     (λ z w.
@@ -439,33 +353,8 @@ timeout_queued n e h there q = bool_case (senders.awaits e.machine.state) (λ b.
     let left : List Part = leave_if_stopped e.channel m.state n.manager in
     set_queued n e m left h there q (λ c apart. leaving_for c e.channel m.state n.manager apart)
     (none_queued (record e { machine = m }) (do_all left n.manager) (parts_none e.channel left n.manager (leaving_bare e.channel m.state n.manager) ((q e there).none (awaits_off e.machine.state w)))
-    (λ on. big_enough e.machine.limits m.limits (limits_timed e.machine) ((q e there).some (awaits_on e.machine.state w)))))
+    (λ on. big_enough e.machine.limits m.limits (limits_timed e.machine) ((q e there).some (awaits_runs e.machine.state w)))))
     (λ z w. tt) refl
-
--- A RECEIVER'S TURN
-places_open : (n : Node) (e : ReceiverEnd) (seen : Seen) (s : Step Reason (Unit {0})) (d : ReceiverDoes) (u : _) → d ≡ takes.Place u → parts_calm (parts_of s) ≡ true → AreQueued n.own.ends n.manager → EachQueued n (Some (place_deed e u seen s n))
-places_open n e seen (Refuse reason) d u is calm q = beside_queued n _ (close_parts e n.manager) refl q
-places_open n e seen (Do reply parts) d u is calm q = beside_queued n _ parts calm q
-
-receiver_by : (stamp : ℕ) (n : Node) (e : ReceiverEnd) (seen : Seen) (d : ReceiverDoes) → AreQueued n.own.ends n.manager → EachQueued n (receiver_deed_by stamp e seen d n)
-receiver_by stamp n e seen takes.Still q = tt
-receiver_by stamp n e seen takes.Ignore q = q
-receiver_by stamp n e seen takes.PushOwed q = beside_queued n _ [] refl q
-receiver_by stamp n e seen takes.Bind q = beside_queued n _ (bind_parts e (bound_by seen e.machine) n.manager) refl q
-receiver_by stamp n e seen takes.Keep q = beside_queued n _ [] refl q
-receiver_by stamp n e seen (takes.Place u) q =
-    let s : Step Reason (Unit {0}) = receive e.channel u (last_by seen e.machine.last) e.kept n.manager in
-    places_open n e seen s (takes.Place u) u refl (step_parts s (receive_calm e.channel u (last_by seen e.machine.last) (landed e.channel e.kept n.manager) n.manager (landed_calm e.channel e.kept n.manager))) q
-receiver_by stamp n e seen takes.Again q = beside_queued n _ [] refl q
-receiver_by stamp n e seen takes.Close q = beside_queued n _ (close_parts e n.manager) refl q
-
-pub receiver_queued : (stamp : ℕ) (n : Node) (e : ReceiverEnd) (seen : Seen) → AreQueued n.own.ends n.manager → EachQueued n (receiver_deed stamp e seen n)
-receiver_queued stamp n e seen q = receiver_by stamp n e seen (receiver_next e.machine seen (is_receiver_defined e.channel n.manager.definitions)) q
-
--- COMMANDS
-refused_open : (n : Node) (o : Option OpRefusal) (d : Deed) → AreQueued n.own.ends n.manager → EachQueued n (Some d) → EachQueued n (Some (refused_or o n.own d))
-refused_open n None d q k = k
-refused_open n (Some reason) d q k = q
 
 -- START
 off_run : (st : SenderState) → senders.is_running st ≡ false → is_sending st ≡ false
@@ -540,45 +429,18 @@ end_there channel n have = at (channel_of channel n.manager.definitions) refl
 starts : (n : Node) (o : Option ChannelEnd) → IsKeyed n → EachThere n o → AreQueued n.own.ends n.manager → EachQueued n (Some (start_end o n))
 starts n None h there q = q
 starts n (Some (Sends e)) h there q = started_if n (senders.is_running e.machine.state) (start_seized e (seize e.channel n.manager) n) q (λ off. seized_queued n e (seize e.channel n.manager) h there.0 q (off_run e.machine.state off) there.1 (seize_opens e n.manager))
-starts n (Some (Receives e)) h there q = refused_open n (refusal (when (receivers.is_bound e.machine.state) reasons.Running ∷ [])) (operated [] (with_end (Receives (record e { machine = receivers.started e.machine })) n.own)) q (beside_queued n (record e { machine = receivers.started e.machine }) [] refl q)
-
-close_calm : (e : ReceiverEnd) (p : Plain) → parts_calm (close_open e p) ≡ true
-close_calm e p = bool_case (is_open (receiver_data e.channel p))
-    (λ t. parts_calm (if t then parts_of (harden e.channel (notes.Closed (receiver_or (receiver_data e.channel p)).session) p) ++ parts_of (set_bound e.channel false p) else parts_of (set_bound e.channel false p)) ≡ true)
-    (λ z. refl) (λ z. refl)
+starts n (Some (Receives e)) h there q = receiver_starts IsQueued is_calm is_calm_for queued_left n e q
 
 stops : (n : Node) (o : Option ChannelEnd) → IsKeyed n → EachThere n o → AreQueued n.own.ends n.manager → EachQueued n (Some (stop_end o n))
 stops n None h there q = q
 stops n (Some (Sends e)) h there q = let_go n e (senders.stopped e.machine) h there.0 q refl
-stops n (Some (Receives e)) h there q = beside_queued n (record e { machine = receivers.stopped e.machine; kept = [] }) (close_open e n.manager) (close_calm e n.manager) q
-
-resets : (seqnum : ℕ) (n : Node) (o : Option ChannelEnd) → AreQueued n.own.ends n.manager → EachQueued n (Some (reset_end seqnum o n))
-resets seqnum n None q = q
-resets seqnum n (Some (Sends e)) q = refused_open n (refusal (
-    when (is_in_doubt e.channel n) reasons.InDoubt
-    ∷ when (senders.is_running e.machine.state) reasons.Running
-    ∷ when (is_bad_number seqnum (limits_here e.channel n)) reasons.BadNumber
-    ∷ [])) (operated (parts_of (harden e.channel (notes.SeqSet end_kinds.Sender (seqnum - 1)) n.manager)) n.own) q (calm_queued n n.own.ends (parts_of (harden e.channel (notes.SeqSet end_kinds.Sender (seqnum - 1)) n.manager)) refl q)
-resets seqnum n (Some (Receives e)) q = refused_open n (refusal (
-    when (receivers.is_bound e.machine.state) reasons.Running
-    ∷ when (is_bad_number seqnum (limits_here e.channel n)) reasons.BadNumber
-    ∷ [])) (operated (parts_of (harden e.channel (notes.SeqSet end_kinds.Receiver (seqnum - 1)) n.manager)) (with_end (Receives (record e { machine = receivers.numbered (seqnum - 1) e.machine })) n.own)) q
-    (beside_queued n (record e { machine = receivers.numbered (seqnum - 1) e.machine }) (parts_of (harden e.channel (notes.SeqSet end_kinds.Receiver (seqnum - 1)) n.manager)) refl q)
-
-doubt_open : (n : Node) (e : SenderEnd) (settle : Settle) (o : Option InDoubt) → AreQueued n.own.ends n.manager → EachQueued n (Some (resolve_doubt e settle o n))
-doubt_open n e settle None q = q
-doubt_open n e settle (Some d) q = refused_open n (refusal (when (senders.is_running e.machine.state) reasons.Running ∷ [])) (operated (parts_of (harden e.channel (notes.Resolved d.unit (is_commit settle) true) n.manager)) n.own) q
-    (calm_queued n n.own.ends (parts_of (harden e.channel (notes.Resolved d.unit (is_commit settle) true) n.manager)) (ap (λ b. b && true) (harden_calm e.channel (notes.Resolved d.unit (is_commit settle) true) n.manager)) q)
-
-resolves : (settle : Settle) (n : Node) (o : Option SenderEnd) → AreQueued n.own.ends n.manager → EachQueued n (Some (resolve_end settle o n))
-resolves settle n None q = q
-resolves settle n (Some e) q = doubt_open n e settle (in_doubt_of (sender_data e.channel n.manager)) q
+stops n (Some (Receives e)) h there q = receiver_stops IsQueued is_calm is_calm_for queued_left n e q
 
 up_opens : (op : Op) (n : Node) → IsKeyed n → HaveSome n.manager.definitions → AreQueued n.own.ends n.manager → EachQueued n (Some (operate_up op n))
 up_opens (ops.Start channel) n h have q = starts n (operators.end_here channel n) h (end_there channel n have) q
 up_opens (ops.Stop channel) n h have q = stops n (operators.end_here channel n) h (end_there channel n have) q
-up_opens (ops.Reset channel seqnum) n h have q = resets seqnum n (operators.end_here channel n) q
-up_opens (ops.Resolve channel settle) n h have q = resolves settle n (sender_named channel n.own.ends) q
+up_opens (ops.Reset channel seqnum) n h have q = resets_each IsQueued is_calm is_calm_for queued_left seqnum n (operators.end_here channel n) q
+up_opens (ops.Resolve channel settle) n h have q = resolves_each IsQueued is_calm is_calm_for queued_left settle n (sender_named channel n.own.ends) q
 
 pub operate_queued : (op : Op) (n : Node) → IsKeyed n → HaveSome n.manager.definitions → AreQueued n.own.ends n.manager → EachQueued n (Some (operators.operate op n))
-operate_queued op n h have q = refused_open n (refusal (when (not (is_up n.manager.running)) reasons.Down ∷ [])) (operate_up op n) q (up_opens op n h have q)
+operate_queued op n h have q = refused_each IsQueued is_calm is_calm_for queued_left n (refusal (when (not (is_up n.manager.running)) reasons.Down ∷ [])) (operate_up op n) q (up_opens op n h have q)

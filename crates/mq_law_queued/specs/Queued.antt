@@ -1,6 +1,6 @@
 -- The batch of a sender is of the queue that it has open, and lists each row once; where it sends none, it has none; and where it runs, it
 -- may send batches of one message at least.
-use Rattle.std.specs.Prelude.{◌≡◌, ◌≤◌, ℕ, Bool, true, false, not, ◌&&◌, List, [], ◌∷◌, Option, Some, None}
+use Rattle.std.specs.Prelude.{◌≡◌, ◌≤◌, ℕ, Bool, true, false, not, List, Option, Some, None}
 use Rattle.std.specs.Str.{bytes_eq}
 use Rattle.mq_base.specs.Members.{AreDistinct, Mem}
 use Rattle.mq_objects.specs.Names.{channel_of}
@@ -16,8 +16,8 @@ use Rattle.mq_calls.specs.State.Change.{AddBatch, DropBatch, ForgetAll, Seize, U
 use Rattle.mq_calls.specs.State.Running.{Up}
 use Rattle.mq_calls.specs.Reads.{batch_of}
 use Rattle.mq_calls.specs.Steps.{Part, Step}
-use Rattle.mq_calls.specs.Steps.Step.{Do, Refuse}
 use Rattle.mq_spec_manager.specs.Agents.{queue_of_sender}
+use Rattle.mq_law_seized.specs.Each.{all_of, parts_of_all, step_of_all}
 use Rattle.mq_spec_node.specs.Node.{ChannelEnd, Node, Own, SenderEnd}
 use Rattle.mq_spec_node.specs.Node.ChannelEnd.{Sends}
 use Rattle.mq_spec_node.specs.Deeds.{Deed}
@@ -32,16 +32,13 @@ is_calm ForgetAll = false
 is_calm _ = true
 
 abbrev pub all_calm : List Change → Bool
-all_calm [] = true
-all_calm (c ∷ cs) = is_calm c && all_calm cs
+all_calm cs = all_of is_calm cs
 
 abbrev pub parts_calm : List Part → Bool
-parts_calm [] = true
-parts_calm (part ∷ parts) = all_calm part.changes && parts_calm parts
+parts_calm parts = parts_of_all is_calm parts
 
 abbrev pub step_calm : {F T : Type 0} → Step F T → Bool
-step_calm (Refuse reason) = true
-step_calm (Do reply parts) = parts_calm parts
+step_calm s = step_of_all is_calm s
 
 -- or at least none of this channel
 abbrev pub is_calm_for : List ℕ → Change → Bool
@@ -53,12 +50,10 @@ is_calm_for channel ForgetAll = false
 is_calm_for channel _ = true
 
 abbrev pub all_calm_for : List ℕ → List Change → Bool
-all_calm_for channel [] = true
-all_calm_for channel (c ∷ cs) = is_calm_for channel c && all_calm_for channel cs
+all_calm_for channel cs = all_of (is_calm_for channel) cs
 
 abbrev pub parts_calm_for : List ℕ → List Part → Bool
-parts_calm_for channel [] = true
-parts_calm_for channel (part ∷ parts) = all_calm_for channel part.changes && parts_calm_for channel parts
+parts_calm_for channel parts = parts_of_all (is_calm_for channel) parts
 
 -- a channel without a batch has none behind it
 abbrev pub is_bare : Change → Bool
@@ -66,12 +61,10 @@ is_bare (AddBatch b) = false
 is_bare _ = true
 
 abbrev pub all_bare : List Change → Bool
-all_bare [] = true
-all_bare (c ∷ cs) = is_bare c && all_bare cs
+all_bare cs = all_of is_bare cs
 
 abbrev pub parts_bare : List Part → Bool
-parts_bare [] = true
-parts_bare (part ∷ parts) = all_bare part.changes && parts_bare parts
+parts_bare parts = parts_of_all is_bare parts
 
 -- a deed that is calm, and leaves the ends of channels as they are
 pub record IsCalmDeed (own : Own) (d : Deed) : Type 0 where

@@ -1,5 +1,6 @@
 -- MQOPEN and MQGET leave seized queues their senders'.
 use Rattle.std.proofs.Common.{ℕ, ◌≡◌, Bool, true, false, List, [], ◌∷◌, ◌++◌, refl, ap, sym, subst, ◌∙◌, inl, inr}
+use Rattle.std.proofs.lemmas.Bool.{true≢false}
 use Rattle.std.specs.Prelude.{Option, Some, None, Result, Ok, Err, ◌==◌, ◌+◌, ◌&&◌, ◌||◌, if◌then◌else◌, not}
 use Rattle.std.specs.Str.{bytes_eq}
 use Rattle.mq_codes.specs.declared.reason.Reason.{Reason}
@@ -43,9 +44,6 @@ use Rattle.mq_law_seized.specs.Seized.{AreSeized, strays}
 use Rattle.mq_law_seized.proofs.Changing.{NoneBy, any_none, change_leaves, changed_none, none_any, none_reads, parts_leave, reads, reads_none}
 use Rattle.mq_law_seized.proofs.Bare.{parts_bare_plain, removal_bare}
 
-true_false : true ≡ false → ⊥
-true_false e = cc
-
 -- A ROW IS HELD
 retagged : (ch : List ℕ) (t : Bool) (by_ : Holder) (o : Row) → is_by_other ch o.by ≡ false → (t ≡ true → is_by_other ch (Some by_) ≡ false) → is_by_other ch (retag_if t (Some by_) o).by ≡ false
 retagged ch true by_ o e f = f refl
@@ -71,7 +69,7 @@ holds q is by_ p h own = record {
 
 -- A QUEUE IS OPENED
 opened_one : (s : List ℕ) (i : Bool) (xm rs hh : Bool) → i ≡ true → xm ≡ true → rs ≡ true → (i && xm && (rs || hh)) ≡ false → ⊥
-opened_one s i xm rs hh a b c e = true_false (sym (λ k. a k && b k && (c k || hh)) ∙ e)
+opened_one s i xm rs hh a b c e = true≢false (sym (λ k. a k && b k && (c k || hh)) ∙ e)
 
 right_none : (a b : Bool) → (a || b) ≡ false → b ≡ false
 right_none true b e = absurd cc
@@ -100,7 +98,7 @@ end_reads how (Local queue) p h free s n = bool_case (is_input how.input) (λ b.
   where
     is_seized : (d : List ℕ) (p : Plain) (s : Seizure) → Mem s p.channels.seizures → s.queue ≡ d → read_by_sender d p ≡ true
     is_seized d p s n e = bool_case (read_by_sender d p) (λ b. read_by_sender d p ≡ b → b ≡ true) (λ z f. refl)
-        (λ z f. absurd (true_false (sym (name_self d) ∙ ap (λ (x : List ℕ). bytes_eq d x) (sym e) ∙ none_any (λ (x : Seizure). bytes_eq d x.queue) p.channels.seizures f s n))) refl
+        (λ z f. absurd (true≢false (sym (name_self d) ∙ ap (λ (x : List ℕ). bytes_eq d x) (sym e) ∙ none_any (λ (x : Seizure). bytes_eq d x.queue) p.channels.seizures f s n))) refl
 
 end_strays : (how : Open) (end : RouteEnd) (p : Plain) → is_unfit how end p ≡ false → (is_input how.input && not (leads_to (queue_at end) end)) ≡ false
 end_strays how (Via xq rq rqm) p fit = ap (λ (b : Bool). b && true) (left_none (is_input how.input) how.browse fit)
@@ -198,8 +196,8 @@ handle_mem n (x ∷ xs) h e = bool_case (x.number == n) (λ b. (if b then Some x
     same x h f = cc
 
 conflict : (i a : Bool) → i ≡ true → (i && not a) ≡ false → (i && a) ≡ false → ⊥
-conflict i true e f g = true_false (sym (ap (λ b. b && true) e) ∙ g)
-conflict i false e f g = true_false (sym (ap (λ b. b && true) e) ∙ f)
+conflict i true e f g = true≢false (sym (ap (λ b. b && true) e) ∙ g)
+conflict i false e f g = true≢false (sym (ap (λ b. b && true) e) ∙ f)
 
 -- who reads a queue is no sender
 no_sender : (c : Connection) (x : Handle) (p : Plain) → AreSeized p → Mem c p.connections → Mem x c.handles → is_input x.how.input ≡ true → (s : Seizure) → Mem s p.channels.seizures → s.queue ≡ queue_at x.leads → ⊥

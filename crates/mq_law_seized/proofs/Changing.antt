@@ -1,5 +1,6 @@
 -- A change that seizes, opens and holds nothing leaves seized queues their senders'.
 use Rattle.std.proofs.Common.{ℕ, ◌≡◌, ◌⊎◌, Bool, true, false, List, [], ◌∷◌, ◌++◌, refl, ap, sym, subst, ◌∙◌, inl, inr, map}
+use Rattle.std.proofs.lemmas.Bool.{or_parts}
 use Rattle.std.specs.Prelude.{Option, Some, None, ◌==◌, ◌&&◌, ◌||◌, if◌then◌else◌, not, filter}
 use Rattle.std.specs.List.{list_any}
 use Rattle.std.specs.Str.{bytes_eq}
@@ -17,8 +18,7 @@ use Rattle.mq_calls.specs.State.Change.{Place as Places, Try, Leave, Hold, Relea
 use Rattle.mq_calls.specs.Reads.{has_step, is_by_other, is_input, leads_to, read_by_handle, stored}
 use Rattle.mq_calls.specs.Condition.{condition}
 use Rattle.mq_calls.specs.Changes.{apply, apply_all, change_connection, change_handle, made_stale, release_if, selects, stale_if, try_if}
-use Rattle.mq_calls.specs.Steps.{Part, Step, do_part, logged}
-use Rattle.mq_calls.specs.Steps.Step.{Do, Refuse}
+use Rattle.mq_calls.specs.Steps.{Part, Step, logged}
 use Rattle.mq_spec_manager.specs.Handles.{is_transmission_queue}
 use Rattle.mq_law_manager.specs.Facts.{Mem}
 use Rattle.mq_law_manager.specs.Kept.{AllKeep, StepKeeps}
@@ -27,21 +27,19 @@ use Rattle.mq_law_manager.specs.View.{view}
 use Rattle.mq_law_manager.proofs.Lists.{bool_case, mem_append, mem_inserted_at, mem_keep, mem_retag}
 use Rattle.mq_law_manager.proofs.Removals.{mem_filter}
 use Rattle.mq_law_manager.proofs.SeenLaws.{applied}
-use Rattle.mq_law_seized.specs.Seized.{AreSeized, all_plain, has_none, is_plain, parts_plain, step_plain, strays}
+use Rattle.mq_law_seized.specs.Each.{has_none}
+use Rattle.mq_law_seized.proofs.Each.{all_keep, parts_keep, step_keeps}
+use Rattle.mq_law_seized.specs.Seized.{AreSeized, all_plain, is_plain, parts_plain, step_plain, strays}
 
 -- LISTS
 pub any_none : {A : Type 0} (test : A → Bool) (xs : List A) → ((x : A) → Mem x xs → test x ≡ false) → list_any test xs ≡ false
 any_none test [] h = refl
 any_none test (x ∷ xs) h = (λ i. h x (inl refl) i || list_any test xs) ∙ any_none test xs (λ y n. h y (inr n))
 
-either_none : (a b : Bool) → (a || b) ≡ false → (a ≡ false) × (b ≡ false)
-either_none true b e = absurd cc
-either_none false b e = (refl, e)
-
 pub none_any : {A : Type 0} (test : A → Bool) (xs : List A) → list_any test xs ≡ false → (x : A) → Mem x xs → test x ≡ false
 none_any test [] e x n = absurd n
-none_any test (y ∷ ys) e x (inl q) = ap test q ∙ (either_none (test y) (list_any test ys) e).0
-none_any test (y ∷ ys) e x (inr n) = none_any test ys (either_none (test y) (list_any test ys) e).1 x n
+none_any test (y ∷ ys) e x (inl q) = ap test q ∙ (or_parts (test y) (list_any test ys) e).0
+none_any test (y ∷ ys) e x (inr n) = none_any test ys (or_parts (test y) (list_any test ys) e).1 x n
 
 mem_mapped : {A B : Type 0} (f : A → B) (xs : List A) (y : B) → Mem y (map f xs) → (x : A) × Mem x xs × (y ≡ f x)
 mem_mapped f [] y n = absurd n
@@ -293,13 +291,8 @@ change_leaves c p e h = record {
       (none_holding s.channel s.queue c p e (none_any (λ (row : Row). is_by_other s.channel row.by) (stored s.queue p).rows (h.held s (less_seized c p e s n))));
 }
 
-pub both_true : (a b : Bool) → (a && b) ≡ true → (a ≡ true) × (b ≡ true)
-both_true true b e = (refl, e)
-both_true false b e = absurd cc
-
 pub changes_leave : (cs : List Change) (p : Plain) → all_plain cs ≡ true → AreSeized p → AreSeized (apply_all cs p)
-changes_leave [] p e h = h
-changes_leave (c ∷ cs) p e h = let b = both_true (is_plain c) (all_plain cs) e in changes_leave cs (apply c p) b.1 (change_leaves c p b.0 h)
+changes_leave cs p e h = all_keep is_plain AreSeized change_leaves cs p e h
 
 pub logged_leaves : (o : Option LogRecord) (p : Plain) → AreSeized p → AreSeized (logged o p)
 logged_leaves None p h = h
@@ -307,21 +300,7 @@ logged_leaves (Some r) p h = record { local = h.local; sends = h.sends; unread =
 
 -- A STEP
 pub parts_leave : (parts : List Part) (p : Plain) → parts_plain parts ≡ true → AreSeized p → AllKeep AreSeized parts p
-parts_leave [] p e h = tt
-parts_leave (part ∷ parts) p e h =
-    let b = both_true (all_plain part.changes) (parts_plain parts) e in
-    let next : AreSeized (do_part part p) = changes_leave part.changes (logged part.forced p) b.0 (logged_leaves part.forced p h) in
-    (next, parts_leave parts (do_part part p) b.1 next)
+parts_leave parts p e h = parts_keep is_plain AreSeized change_leaves logged_leaves parts p e h
 
 pub step_leaves : {F T : Type 0} (s : Step F T) (p : Plain) → step_plain s ≡ true → AreSeized p → StepKeeps AreSeized s p
-step_leaves (Refuse reason) p e h = tt
-step_leaves (Do reply parts) p e h = parts_leave parts p e h
-
--- ONE BEHIND ANOTHER
-pub plain_behind : (xs ys : List Change) → all_plain xs ≡ true → all_plain ys ≡ true → all_plain (xs ++ ys) ≡ true
-plain_behind [] ys a b = b
-plain_behind (x ∷ xs) ys a b = let z = both_true (is_plain x) (all_plain xs) a in ap (λ (t : Bool). t && all_plain (xs ++ ys)) z.0 ∙ plain_behind xs ys z.1 b
-
-pub plain_parts_behind : (xs ys : List Part) → parts_plain xs ≡ true → parts_plain ys ≡ true → parts_plain (xs ++ ys) ≡ true
-plain_parts_behind [] ys a b = b
-plain_parts_behind (x ∷ xs) ys a b = let z = both_true (all_plain x.changes) (parts_plain xs) a in ap (λ (t : Bool). t && parts_plain (xs ++ ys)) z.0 ∙ plain_parts_behind xs ys z.1 b
+step_leaves s p e h = step_keeps is_plain AreSeized change_leaves logged_leaves s p e h

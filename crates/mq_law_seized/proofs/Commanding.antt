@@ -1,14 +1,13 @@
 -- Commands on objects leave seized queues their senders': USAGE of one stays, and it is not deleted.
-use Rattle.std.proofs.Common.{ℕ, ◌≡◌, Bool, true, false, List, [], ◌∷◌, ◌++◌, refl, ap, sym, subst, ◌∙◌}
+use Rattle.std.proofs.Common.{ℕ, ◌≡◌, Bool, true, false, List, [], ◌∷◌, refl, ap, sym, subst, ◌∙◌}
+use Rattle.std.proofs.lemmas.Bool.{and_parts, not-false, true≢false}
 use Rattle.std.specs.Prelude.{Option, Some, None, Result, Ok, Err, if◌then◌else◌, not, ◌&&◌, ◌||◌}
 use Rattle.std.specs.Str.{bytes_eq}
-use Rattle.mq_objects.specs.declared.object.Definitions.{Definitions}
 use Rattle.mq_objects.specs.declared.object.LocalQueue.{LocalQueue}
 use Rattle.mq_objects.specs.declared.object.Object.{Object}
 use Rattle.mq_objects.specs.declared.object.Object.TheVariants as objects
 use Rattle.mq_objects.specs.declared.setting.Keyword.{Keyword}
 use Rattle.mq_objects.specs.declared.command.Subject.{Subject}
-use Rattle.mq_objects.specs.declared.command.Subject.TheVariants as subjects
 use Rattle.mq_objects.specs.declared.command.Command.{Command}
 use Rattle.mq_objects.specs.declared.command.Command.TheVariants as commands
 use Rattle.mq_objects.specs.declared.command.Define.{Define}
@@ -19,8 +18,6 @@ use Rattle.mq_objects.specs.declared.change.ObjectChange.TheVariants as changes
 use Rattle.mq_objects.specs.Names.{Space, Queues, as_local, is_kind, is_object, is_transmission, local_of, name_of, named, object_in, same_space, space_of, subject_name, subject_space}
 use Rattle.mq_objects.specs.Changed.{set_in}
 use Rattle.mq_objects.specs.Settings.{set_all, set_all_manager}
-use Rattle.mq_resolve.specs.declared.route.PathStep.{PathStep}
-use Rattle.mq_resolve.specs.declared.route.PathStep.TheVariants as steps
 use Rattle.mq_calls.specs.declared.commands.ScRefusal.{ScRefusal}
 use Rattle.mq_calls.specs.declared.commands.ScRefusal.TheVariants as refusals
 use Rattle.mq_calls.specs.declared.commands.Shown.{Shown}
@@ -37,20 +34,21 @@ use Rattle.mq_calls.specs.State.Change.{ChangeObjects}
 use Rattle.mq_calls.specs.Changes.{apply}
 use Rattle.mq_calls.specs.Reads.{is_up, read_by_sender}
 use Rattle.mq_calls.specs.Steps.{when}
-use Rattle.mq_spec_manager.specs.Commands.{command, dropped, follows, planned_step, renewed, renewed_if, stale_if, switched_if, uses_of}
+use Rattle.mq_spec_manager.specs.Commands.{command, follows, planned_step, uses_of}
 use Rattle.mq_spec_manager.specs.Handles.{is_transmission_queue}
 use Rattle.mq_law_manager.specs.Facts.{AreOnce, IsSound, Mem, is_local}
 use Rattle.mq_law_manager.specs.Kept.{StepKeeps}
+use Rattle.mq_law_seized.specs.Each.{is_common}
+use Rattle.mq_law_seized.proofs.CommonCalls.{follows_common}
+use Rattle.mq_law_seized.proofs.Each.{all_weaker}
 use Rattle.mq_law_manager.proofs.Lists.{bool_case, name_self, name_yes}
 use Rattle.mq_law_manager.proofs.Commanding.{object_name}
 use Rattle.mq_law_manager.proofs.Objects.{all_alike, defined_alike, delete_found, found_object, kind_local, new_name, new_space, object_is, same_space_is, set_found}
 use Rattle.mq_law_manager.proofs.StockCommands.{used_alike}
-use Rattle.mq_law_seized.specs.Seized.{AreSeized, all_plain}
+use Rattle.mq_law_seized.specs.Seized.{AreSeized, is_plain}
+use Rattle.mq_law_seized.proofs.Bare.{common_plain}
 use Rattle.mq_law_seized.proofs.Calling.{tested_keeps}
-use Rattle.mq_law_seized.proofs.Changing.{both_true, changes_leave, logged_leaves, none_any, plain_behind}
-
-true_false : true ≡ false → ⊥
-true_false e = cc
+use Rattle.mq_law_seized.proofs.Changing.{changes_leave, logged_leaves, none_any}
 
 -- WHAT A PLAN KEEPS TO
 abbrev SetsSo : Object → Plain → Type 0
@@ -94,10 +92,6 @@ no_left : (a b : Bool) → (a || b) ≡ false → b ≡ false
 no_left true b e = absurd cc
 no_left false b e = e
 
-not_false : (b : Bool) → not b ≡ false → b ≡ true
-not_false true e = refl
-not_false false e = absurd cc
-
 -- an object that a command sets, found by the subject that the command names
 set_as : (s : Subject) (new : Object) (o : Option Object) (p : Plain) (P : Object → Type 0) → space_of new ≡ subject_space s → name_of new ≡ subject_name s → named s p.definitions ≡ o → ((old : Object) → o ≡ Some old → P old)
     → (old : Object) → object_in (space_of new) (name_of new) p.definitions.objects ≡ Some old → P old
@@ -112,7 +106,7 @@ define_so p d (Some old) e =
     let a = defined_alike d.subject d.settings in
     row_so p (not d.replace || not (is_kind d.subject old)) refusals.Exists _ (λ k.
     changed_so p false old (defined_object d.subject d.settings) false (set_as d.subject (defined_object d.subject d.settings) (Some old) p (λ x. (is_local (defined_object d.subject d.settings) ≡ is_local x) × (old ≡ x)) (a.space ∙ new_space d.subject) (a.name ∙ new_name d.subject) e
-    (λ x f. (a.local ∙ kind_local d.subject old (not_false (is_kind d.subject old) (no_left (not d.replace) (not (is_kind d.subject old)) k)) ∙ ap is_local (ap (object_or old) f), ap (object_or old) f))))
+    (λ x f. (a.local ∙ kind_local d.subject old (not-false (is_kind d.subject old) (no_left (not d.replace) (not (is_kind d.subject old)) k)) ∙ ap is_local (ap (object_or old) f), ap (object_or old) f))))
 
 good_so : (p : Plain) (a : Alter) (old : Object) (o : Option Keyword) → named a.subject p.definitions ≡ Some old → PlanSo p (alter_good o a old (uses_of p))
 good_so p a old (Some keyword) e = tt
@@ -153,7 +147,7 @@ plan_so (commands.Display d) p = to_shown p (display d p.given.name p.definition
 -- A QUEUE THAT IS OPEN stays a transmission queue
 not_and : (a b : Bool) → (not a && b) ≡ false → b ≡ true → a ≡ true
 not_and true b e f = refl
-not_and false b e f = absurd (true_false (sym f ∙ e))
+not_and false b e f = absurd (true≢false (sym f ∙ e))
 
 usage_kept : (a : LocalQueue) (new : Object) (sent : Bool) → is_local new ≡ true → (changes_usage (objects.Local a) new && sent) ≡ false → sent ≡ true → is_transmission a.usage ≡ true → is_transmission_queue (as_local (Some new)) ≡ true
 usage_kept a (objects.Local b) sent i e r k = sym (used_alike a.usage b.usage (not_and (same_usage a.usage b.usage) sent e r)) ∙ k
@@ -178,7 +172,7 @@ sets_sends new p so q sent xm = ap (λ (o : Option Object). is_transmission_queu
     at space name (Some (objects.Process a)) f k = absurd cc
 
 same_place : (a b : Space) (n m : List ℕ) → (same_space a b && bytes_eq n m) ≡ true → (a ≡ b) × (n ≡ m)
-same_place a b n m e = let k = both_true (same_space a b) (bytes_eq n m) e in (same_space_is a b k.0, name_yes n m k.1)
+same_place a b n m e = let k = and_parts (same_space a b) (bytes_eq n m) e in (same_space_is a b k.0, name_yes n m k.1)
 
 deletes_sends : (s : Subject) (p : Plain) → AreOnce p.definitions.objects → DeletesSo s p → (q : List ℕ) → read_by_sender q p ≡ true → is_transmission_queue (local_of q p.definitions) ≡ true
     → is_transmission_queue (local_of q (apply (ChangeObjects (changes.Delete s)) p).definitions) ≡ true
@@ -188,11 +182,11 @@ deletes_sends s p once so q sent xm = ap (λ (o : Option Object). is_transmissio
     (λ z w. let is = same_place Queues (subject_space s) q (subject_name s) w in absurd (at so.old (ap (λ (x : Space). object_in x q p.definitions.objects) is.0 ∙ ap (λ (n : List ℕ). object_in (subject_space s) n p.definitions.objects) is.1 ∙ so.found) so.sent)) (λ z w. xm) refl
   where
     at : (old : Object) → object_in Queues q p.definitions.objects ≡ Some old → is_sent_from old (uses_of p) ≡ false → ⊥
-    at (objects.Local a) f g = true_false (sym (ap (λ (n : List ℕ). read_by_sender n p) (object_name q p.definitions.objects (objects.Local a) f) ∙ sent) ∙ g)
-    at (objects.Alias a) f g = true_false (sym xm ∙ ap (λ (o : Option Object). is_transmission_queue (as_local o)) f)
-    at (objects.Remote a) f g = true_false (sym xm ∙ ap (λ (o : Option Object). is_transmission_queue (as_local o)) f)
-    at (objects.Channel a) f g = true_false (sym xm ∙ ap (λ (o : Option Object). is_transmission_queue (as_local o)) f)
-    at (objects.Process a) f g = true_false (sym xm ∙ ap (λ (o : Option Object). is_transmission_queue (as_local o)) f)
+    at (objects.Local a) f g = true≢false (sym (ap (λ (n : List ℕ). read_by_sender n p) (object_name q p.definitions.objects (objects.Local a) f) ∙ sent) ∙ g)
+    at (objects.Alias a) f g = true≢false (sym xm ∙ ap (λ (o : Option Object). is_transmission_queue (as_local o)) f)
+    at (objects.Remote a) f g = true≢false (sym xm ∙ ap (λ (o : Option Object). is_transmission_queue (as_local o)) f)
+    at (objects.Channel a) f g = true≢false (sym xm ∙ ap (λ (o : Option Object). is_transmission_queue (as_local o)) f)
+    at (objects.Process a) f g = true≢false (sym xm ∙ ap (λ (o : Option Object). is_transmission_queue (as_local o)) f)
 
 change_sends : (change : ObjectChange) (p : Plain) → AreOnce p.definitions.objects → FitsSo change p → (q : List ℕ) → read_by_sender q p ≡ true → is_transmission_queue (local_of q p.definitions) ≡ true → is_transmission_queue (local_of q (apply (ChangeObjects change) p).definitions) ≡ true
 change_sends (changes.Set new) p once so q sent xm = sets_sends new p so q sent xm
@@ -201,7 +195,7 @@ change_sends (changes.Delete s) p once so q sent xm = deletes_sends s p once so 
 
 sent_by : (p : Plain) (s : Seizure) → Mem s p.channels.seizures → read_by_sender s.queue p ≡ true
 sent_by p s n = bool_case (read_by_sender s.queue p) (λ b. read_by_sender s.queue p ≡ b → b ≡ true) (λ z f. refl)
-    (λ z f. absurd (true_false (sym (name_self s.queue) ∙ none_any (λ (x : Seizure). bytes_eq s.queue x.queue) p.channels.seizures f s n))) refl
+    (λ z f. absurd (true≢false (sym (name_self s.queue) ∙ none_any (λ (x : Seizure). bytes_eq s.queue x.queue) p.channels.seizures f s n))) refl
 
 objects_leave : (change : ObjectChange) (p : Plain) → AreOnce p.definitions.objects → FitsSo change p → AreSeized p → AreSeized (apply (ChangeObjects change) p)
 objects_leave change p once so h = record {
@@ -212,38 +206,10 @@ objects_leave change p once so h = record {
   held = h.held;
 }
 
--- WHAT FOLLOWS IT
-stale_plain : (b : Bool) (way : PathStep) → all_plain (stale_if b way) ≡ true
-stale_plain true way = refl
-stale_plain false way = refl
-
-switched_plain : (b : Bool) (name : List ℕ) → all_plain (switched_if b name) ≡ true
-switched_plain true name = refl
-switched_plain false name = refl
-
-renewed_if_plain : (o : Option LocalQueue) (name : List ℕ) → all_plain (renewed_if o name) ≡ true
-renewed_if_plain None name = refl
-renewed_if_plain (Some q) name = refl
-
-renewed_plain : (o : Object) (d : Definitions) → all_plain (renewed o d) ≡ true
-renewed_plain (objects.Local q) d = renewed_if_plain (local_of q.name d) q.name
-renewed_plain o d = refl
-
-dropped_plain : (s : Subject) → all_plain (dropped s) ≡ true
-dropped_plain (subjects.Local name) = refl
-dropped_plain s = refl
-
-follows_plain : (change : ObjectChange) (planned : Planned) (d : Definitions) → all_plain (follows change planned d) ≡ true
-follows_plain (changes.Set new) planned d = plain_behind (renewed new d ++ stale_if planned.reroutes (steps.Queue (name_of new))) (switched_if planned.switches_on (name_of new))
-    (plain_behind (renewed new d) (stale_if planned.reroutes (steps.Queue (name_of new))) (renewed_plain new d) (stale_plain planned.reroutes (steps.Queue (name_of new))))
-    (switched_plain planned.switches_on (name_of new))
-follows_plain (changes.SetManager m) planned d = stale_plain planned.reroutes steps.DefXmitq
-follows_plain (changes.Delete subject) planned d = dropped_plain subject
-
 -- A COMMAND
 planned_keeps : (r : Result Plan ScRefusal) (p : Plain) → AreOnce p.definitions.objects → AllSo p r → AreSeized p → StepKeeps AreSeized (planned_step r p.definitions) p
 planned_keeps (Ok (plans.Change planned)) p once so h = (
-  changes_leave (follows planned.change planned p.definitions) _ (follows_plain planned.change planned p.definitions)
+  changes_leave (follows planned.change planned p.definitions) _ (all_weaker is_common is_plain common_plain (follows planned.change planned p.definitions) (follows_common planned.change planned p.definitions))
       (logged_leaves (Some (records.Objects planned.change)) (apply (ChangeObjects planned.change) p) (objects_leave planned.change p once so h)),
   tt,
 )

@@ -1,3 +1,6 @@
+pub mod Each
+pub mod CommonCalls
+pub mod Written
 pub mod Changing
 pub mod Bare
 pub mod Calling

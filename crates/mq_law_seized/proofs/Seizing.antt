@@ -1,18 +1,15 @@
 -- What ends of channels do leaves seized queues their senders'; and a manager begins with none.
 use Rattle.std.proofs.Common.{ℕ, ◌≡◌, ◌⊎◌, Bool, true, false, List, [], ◌∷◌, refl, ap, sym, subst, ◌∙◌, inl, inr}
-use Rattle.std.specs.Prelude.{Option, Some, None, Result, Ok, Err, IsSome, ◌&&◌, ◌||◌, if◌then◌else◌, not, take}
+use Rattle.std.proofs.lemmas.Bool.{not-false, or_parts, true≢false}
+use Rattle.std.specs.Prelude.{Option, Some, None, IsSome, ◌&&◌, ◌||◌, if◌then◌else◌, not, take}
 use Rattle.std.specs.Str.{bytes_eq}
-use Rattle.mq_codes.specs.declared.reason.Reason.{Reason}
-use Rattle.mq_codes.specs.declared.reason.Reason.TheVariants as reasons
 use Rattle.mq_message.specs.declared.message.Ident.{Ident}
 use Rattle.mq_message.specs.declared.message.Message.{Message}
 use Rattle.mq_message.specs.declared.place.Holder.TheVariants as holders
 use Rattle.mq_objects.specs.Names.{channel_of, local_of}
-use Rattle.mq_sync.specs.declared.data.End.TheVariants as ends
 use Rattle.mq_sync.specs.declared.unit.Unit.{Unit as Luw}
 use Rattle.mq_sync.specs.Settlement.{sender_or}
 use Rattle.mq_calls.specs.declared.agents.Note.{Note}
-use Rattle.mq_calls.specs.declared.agents.Note.TheVariants as notes
 use Rattle.mq_calls.specs.declared.agents.PrepareFault.TheVariants as prepare_faults
 use Rattle.mq_calls.specs.declared.agents.SeizeFault.{SeizeFault}
 use Rattle.mq_calls.specs.declared.agents.SeizeFault.TheVariants as seize_faults
@@ -29,23 +26,18 @@ use Rattle.mq_calls.specs.Steps.{Test, silent, when}
 use Rattle.mq_calls.specs.Steps.Step.{Do}
 use Rattle.mq_spec_manager.specs.Get.{idents_of}
 use Rattle.mq_spec_manager.specs.Handles.{is_transmission_queue}
-use Rattle.mq_spec_manager.specs.Agents.{CanHold, HasSeized, Landed, Landing, Standing, before, channel_queue, drop_changes, expire, harden, harden_part, hold_batch, is_present, land, land_changes, landed, landed_by, landed_unless, leave, prepare, prepare_of, prepared_changes, prepared_record, queue_of_sender, receive, receive_landed, received_record, release_batch, release_of, seize, seized_queue, set_bound, standing_at, undoubted, expired_rows}
-use Rattle.mq_spec_manager.specs.Standing.Standing.{Absent, InDoubtAt, Present}
-use Rattle.mq_calls.specs.Reads.{is_persistent}
+use Rattle.mq_spec_manager.specs.Agents.{CanHold, HasSeized, channel_queue, expire, harden, hold_batch, leave, prepare, prepare_of, prepared_changes, prepared_record, queue_of_sender, receive, release_batch, release_of, seize, seized_queue, set_bound, expired_rows}
 use Rattle.mq_law_manager.specs.Facts.{Mem}
 use Rattle.mq_law_manager.specs.Kept.{StepKeeps}
+use Rattle.mq_law_seized.specs.Each.{is_written}
+use Rattle.mq_law_seized.proofs.Each.{step_weaker}
+use Rattle.mq_law_manager.proofs.ShortSteps.{tested_all}
+use Rattle.mq_law_seized.proofs.Written.{harden_written, receive_written}
 use Rattle.mq_law_manager.proofs.Lists.{bool_case, name_self, name_yes}
-use Rattle.mq_law_seized.specs.Seized.{AreSeized, all_bare, step_bare}
+use Rattle.mq_law_seized.specs.Seized.{AreSeized, is_bare, step_bare}
 use Rattle.mq_law_seized.proofs.Calling.{holds, tested_keeps, tests_none}
 use Rattle.mq_law_seized.proofs.Changing.{change_leaves, none_any, step_leaves}
-use Rattle.mq_law_seized.proofs.Bare.{bare_behind, bare_leaves, removal_bare, tested_bare}
-
-true_false : true ≡ false → ⊥
-true_false e = cc
-
-either_none : (a b : Bool) → (a || b) ≡ false → (a ≡ false) × (b ≡ false)
-either_none true b e = absurd cc
-either_none false b e = (refl, e)
+use Rattle.mq_law_seized.proofs.Bare.{bare_leaves, removal_bare, written_bare}
 
 -- SEIZING
 mem_set : (new : Seizure) (xs : List Seizure) (s : Seizure) → Mem s (set_named (λ (x : Seizure). x.channel) new xs) → (s ≡ new) ⊎ Mem s xs
@@ -61,11 +53,11 @@ mem_set new (x ∷ xs) s n = bool_case (bytes_eq new.channel x.channel)
     ])) n
 
 unsent : (d : List ℕ) (p : Plain) → read_by_sender d p ≡ false → (s : Seizure) → Mem s p.channels.seizures → s.queue ≡ d → ⊥
-unsent d p f s n e = true_false (sym (name_self d) ∙ ap (λ (x : List ℕ). bytes_eq d x) (sym e) ∙ none_any (λ (x : Seizure). bytes_eq d x.queue) p.channels.seizures f s n)
+unsent d p f s n e = true≢false (sym (name_self d) ∙ ap (λ (x : List ℕ). bytes_eq d x) (sym e) ∙ none_any (λ (x : Seizure). bytes_eq d x.queue) p.channels.seizures f s n)
 
 seizes_one : (new : Seizure) (p : Plain) → AreSeized p → is_transmission_queue (local_of new.queue p.definitions) ≡ true → is_open_for_input new.queue p ≡ false → has_held_by_other new.channel new.queue p ≡ false → AreSeized (apply (Seize new) p)
 seizes_one new p h xm shut held =
-    let o = either_none (read_by_handle new.queue p) (read_by_sender new.queue p) shut in
+    let o = or_parts (read_by_handle new.queue p) (read_by_sender new.queue p) shut in
     record {
       local = h.local;
       sends = λ s n. elim (mem_set new p.channels.seizures s n) [
@@ -92,10 +84,6 @@ seizes_one new p h xm shut held =
       ];
     }
 
-not_false : (b : Bool) → not b ≡ false → b ≡ true
-not_false true e = refl
-not_false false e = absurd cc
-
 pub seizes : (channel : List ℕ) (p : Plain) → AreSeized p → StepKeeps AreSeized (seize channel p) p
 seizes channel p h =
     let queue : List ℕ = channel_queue (channel_of channel p.definitions) in
@@ -104,8 +92,8 @@ seizes channel p h =
     ∷ [] in
     tested_keeps ts (Do tt (silent (Seize (record { channel = channel; queue = queue }) ∷ []) ∷ [])) p (λ e.
     let t = tests_none ts e in
-    let v = either_none (is_open_for_input queue p) (has_held_by_other channel queue p) t.1.0 in
-    (seizes_one (record { channel = channel; queue = queue }) p h (not_false (is_transmission_queue (local_of queue p.definitions)) t.0) v.0 v.1, tt))
+    let v = or_parts (is_open_for_input queue p) (has_held_by_other channel queue p) t.1.0 in
+    (seizes_one (record { channel = channel; queue = queue }) p h (not-false (is_transmission_queue (local_of queue p.definitions)) t.0) v.0 v.1, tt))
 
 -- A BATCH
 some_of : {A : Type 0} (o : Option A) → IsSome o → (x : A) × (o ≡ Some x)
@@ -140,7 +128,7 @@ holds_batch channel unit most p can h = holds_seized channel unit most p can.sei
 -- WHAT IS BARE
 pub prepare_bare : (channel : List ℕ) (last : ℕ) (o : Option Batch) (p : Plain) → step_bare (prepare_of channel last o p) ≡ true
 prepare_bare channel last None p = refl
-prepare_bare channel last (Some b) p = tested_bare (when (is_full (need (prepared_record channel last b)) p) prepare_faults.NoRoom ∷ []) (Do (tt {0}) (record {
+prepare_bare channel last (Some b) p = tested_all (λ s. step_bare s ≡ true) (λ r. refl) (when (is_full (need (prepared_record channel last b)) p) prepare_faults.NoRoom ∷ []) (Do (tt {0}) (record {
   forced = Some (prepared_record channel last b);
   changes = prepared_changes channel last b (sender_or (sender_data channel p));
   delta = did.Prepared channel b.unit ∷ [];
@@ -150,56 +138,14 @@ pub release_bare : (channel : List ℕ) (o : Option Batch) → step_bare (releas
 release_bare channel None = refl
 release_bare channel (Some b) = refl
 
-harden_bare : (channel : List ℕ) (note : Note) (p : Plain) → all_bare (harden_part channel note p).changes ≡ true
-harden_bare channel (notes.Session partner session) p = refl
-harden_bare channel (notes.Resolved unit true operator) p = refl
-harden_bare channel (notes.Resolved unit false operator) p = refl
-harden_bare channel (notes.Bound partner session last) p = refl
-harden_bare channel (notes.Closed session) p = refl
-harden_bare channel (notes.SeqSet ends.Sender last) p = refl
-harden_bare channel (notes.SeqSet ends.Receiver last) p = refl
-
-undoubted_bare : (b : Bool) (i : Ident) → all_bare (undoubted b i) ≡ true
-undoubted_bare true i = refl
-undoubted_bare false i = refl
-
-drop_bare : (m : Message) (s : Standing) → all_bare (drop_changes m s) ≡ true
-drop_bare m Absent = undoubted_bare (is_persistent m) m.ident
-drop_bare m Present = undoubted_bare (is_persistent m) m.ident
-drop_bare m (InDoubtAt queue) = undoubted_bare (is_persistent m) m.ident
-
-land_bare : (l : Landing) (s : Standing) → all_bare (land_changes l s) ≡ true
-land_bare l s = bare_behind (drop_changes l.message s) _ (drop_bare l.message s) refl
-
-abbrev LandsBare : Result Landed Reason → Type 0
-LandsBare (Err reason) = Unit {0}
-LandsBare (Ok l) = all_bare l.changes ≡ true
-
-before_bare : (m : Message) (l : Landing) (s : Standing) (r : Result Landed Reason) → LandsBare r → LandsBare (before m l s r)
-before_bare m l s (Err reason) h = tt
-before_bare m l s (Ok rest) h = bare_behind (land_changes l s) rest.changes (land_bare l s) h
-
-by_bare : (o : Result Landing Reason) (m : Message) (s : Standing) (p : Plain) (rest : Plain → Result Landed Reason) → ((q : Plain) → LandsBare (rest q)) → LandsBare (landed_by o m s p rest)
-by_bare (Err reason) m s p rest h = tt
-by_bare (Ok l) m s p rest h = before_bare m l s _ (h _)
-
-unless_bare : (b : Bool) (channel : List ℕ) (m : Message) (s : Standing) (p : Plain) (rest : Plain → Result Landed Reason) → ((q : Plain) → LandsBare (rest q)) → LandsBare (landed_unless b channel m s p rest)
-unless_bare true channel m s p rest h = h p
-unless_bare false channel m s p rest h = by_bare (land channel m p) m s p rest h
-
-pub landed_bare : (channel : List ℕ) (ms : List Message) (p : Plain) → LandsBare (landed channel ms p)
-landed_bare channel [] p = refl
-landed_bare channel (m ∷ ms) p = unless_bare (is_present (standing_at m p)) channel m (standing_at m p) p (λ q. landed channel ms q) (λ q. landed_bare channel ms q)
-
-pub receive_bare : (channel : List ℕ) (unit : Luw) (last : ℕ) (o : Result Landed Reason) (p : Plain) → LandsBare o → step_bare (receive_landed channel unit last o p) ≡ true
-receive_bare channel unit last (Err reason) p h = refl
-receive_bare channel unit last (Ok l) p h = tested_bare (when (is_full (need (received_record channel unit last l)) p) reasons.ResourceProblem ∷ []) _ (ap (λ (b : Bool). b && true) (bare_behind l.changes _ h refl))
-
 pub hardens_bare : (channel : List ℕ) (note : Note) (p : Plain) → step_bare (harden channel note p) ≡ true
-hardens_bare channel note p = ap (λ (b : Bool). b && true) (harden_bare channel note p)
+hardens_bare channel note p = step_weaker is_written is_bare written_bare (harden channel note p) (ap (λ (b : Bool). b && true) (harden_written channel note p))
+
+pub receives_bare : (channel : List ℕ) (unit : Luw) (last : ℕ) (batch : List Message) (p : Plain) → step_bare (receive channel unit last batch p) ≡ true
+receives_bare channel unit last batch p = step_weaker is_written is_bare written_bare (receive channel unit last batch p) (receive_written channel unit last batch p)
 
 pub receives : (channel : List ℕ) (unit : Luw) (last : ℕ) (batch : List Message) (p : Plain) → AreSeized p → StepKeeps AreSeized (receive channel unit last batch p) p
-receives channel unit last batch p h = bare_leaves (receive channel unit last batch p) p (receive_bare channel unit last (landed channel batch p) p (landed_bare channel batch p)) h
+receives channel unit last batch p h = bare_leaves (receive channel unit last batch p) p (receives_bare channel unit last batch p) h
 
 pub prepares : (channel : List ℕ) (last : ℕ) (p : Plain) → AreSeized p → StepKeeps AreSeized (prepare channel last p) p
 prepares channel last p h = bare_leaves (prepare channel last p) p (prepare_bare channel last (batch_of channel p.channels.batches) p) h

@@ -36,8 +36,8 @@ use Rattle.mq_calls.specs.State.Change.{Place as Places, Hold, Release, Renew, D
 use Rattle.mq_calls.specs.Reads.{batch_of, is_full, is_persistent, receiver_data, sender_data, stored}
 use Rattle.mq_sync.specs.Settlement.{receiver_or, sender_or}
 use Rattle.mq_calls.specs.Sizes.{need}
-use Rattle.mq_calls.specs.Changes.{apply, apply_all, lane_of, new_row, release_if, retag_if, selects}
-use Rattle.mq_calls.specs.Steps.{Part, do_all, do_part, logged, refused_or}
+use Rattle.mq_calls.specs.Changes.{apply_all, lane_of, new_row, release_if, retag_if, selects}
+use Rattle.mq_calls.specs.Steps.{Part, do_all, logged, refused_or}
 use Rattle.mq_calls.specs.Steps.Step.{Do}
 use Rattle.mq_spec_manager.specs.Get.{expired_parts}
 use Rattle.mq_spec_manager.specs.Put.{placed}
@@ -48,7 +48,8 @@ use Rattle.mq_spec_node.specs.Deeds.{parts_of}
 use Rattle.mq_spec_node.specs.Receivers.{place_deed, receiver_deed_by}
 use Rattle.mq_spec_node.specs.Senders.{leave_if_stopped, prepare_deed, sender_deed_by, settle_parts, settle_parts_if}
 use Rattle.mq_law_channel.specs.Facts.{Letter, Mem}
-use Rattle.mq_law_rows.proofs.Lists.{and_left, and_right, bool_case, mem_insert, mem_keep, mem_retag, true_false}
+use Rattle.mq_law_seized.proofs.Each.{all_behind, kept_behind, parts_behind as behind, parts_keep}
+use Rattle.mq_law_rows.proofs.Lists.{bool_case, mem_insert, mem_keep, mem_retag, true_false}
 use Rattle.mq_law_manager.specs.Facts.{IsSound}
 use Rattle.mq_law_manager.proofs.Lists.{distinct_of}
 use Rattle.mq_law_manager.proofs.Named.{name_yes}
@@ -102,23 +103,17 @@ change_keeps c name (Hold which (holders.Batch d)) p e = λ r f. held_apart (sel
 change_keeps c name (Release which counted) p e = λ r f. free_apart (selects which name r && not (is_free r)) counted c r f
 change_keeps c name x p e = tt
 
-changes_before : (c name : List ℕ) (cs : List Change) (p : Plain) (x : Row) → all_for_others c cs ≡ true → Mem x (rows_at name (apply_all cs p)) → x.by ≡ Some (holders.Batch c) → Mem x (rows_at name p)
-changes_before c name [] p x e n h = n
-changes_before c name (y ∷ cs) p x e n h =
-    kind_before (row_kind name y p) (stored name p).arrivals c x (rows_at name p) (change_keeps c name y p (and_left (is_for_others c y) (all_for_others c cs) e))
-    (subst (λ rows. Mem x rows) (rows_applied name y p) (changes_before c name cs (apply y p) x (and_right (is_for_others c y) (all_for_others c cs) e) n h)) h
-
-part_before : (c name : List ℕ) (part : Part) (p : Plain) (x : Row) → all_for_others c part.changes ≡ true → Mem x (rows_at name (do_part part p)) → x.by ≡ Some (holders.Batch c) → Mem x (rows_at name p)
-part_before c name part p x e n h = go part.forced (changes_before c name part.changes (logged part.forced p) x e n h)
-  where
-    go : (o : Option LogRecord) → Mem x (rows_at name (logged o p)) → Mem x (rows_at name p)
-    go None k = k
-    go (Some r) k = k
+logged_before : (name : List ℕ) (o : Option LogRecord) (p : Plain) (x : Row) → Mem x (rows_at name (logged o p)) → Mem x (rows_at name p)
+logged_before name None p x n = n
+logged_before name (Some r) p x n = n
 
 parts_before : (c name : List ℕ) (parts : List Part) (p : Plain) (x : Row) → parts_for_others c parts ≡ true → Mem x (rows_at name (do_all parts p)) → x.by ≡ Some (holders.Batch c) → Mem x (rows_at name p)
-parts_before c name [] p x e n h = n
-parts_before c name (part ∷ parts) p x e n h = part_before c name part p x (and_left (all_for_others c part.changes) (parts_for_others c parts) e)
-    (parts_before c name parts (do_part part p) x (and_right (all_for_others c part.changes) (parts_for_others c parts) e) n h) h
+parts_before c name parts p x e n h = kept_behind Came parts p (λ m. m) (parts_keep (is_for_others c) Came
+    (λ y v z g m. g (kind_before (row_kind name y v) (stored name v).arrivals c x (rows_at name v) (change_keeps c name y v z) (subst (λ rows. Mem x rows) (rows_applied name y v) m) h))
+    (λ o v g m. g (logged_before name o v x m)) parts p e (λ m. m)) n
+  where
+    Came : Plain → Type 0
+    Came v = Mem x (rows_at name v) → Mem x (rows_at name p)
 
 -- So what a sender reads of its batch stays
 
@@ -148,13 +143,8 @@ stays c p parts sp sq same e letters reads i =
 
 -- TURNS OF OTHER ENDS
 
-others_behind : (c : List ℕ) (xs ys : List Change) → all_for_others c xs ≡ true → all_for_others c ys ≡ true → all_for_others c (xs ++ ys) ≡ true
-others_behind c [] ys e f = f
-others_behind c (x ∷ xs) ys e f = (λ i. and_left (is_for_others c x) (all_for_others c xs) e i && others_behind c xs ys (and_right (is_for_others c x) (all_for_others c xs) e) f i)
-
 pub parts_behind : (c : List ℕ) (xs ys : List Part) → parts_for_others c xs ≡ true → parts_for_others c ys ≡ true → parts_for_others c (xs ++ ys) ≡ true
-parts_behind c [] ys e f = f
-parts_behind c (x ∷ xs) ys e f = (λ i. and_left (all_for_others c x.changes) (parts_for_others c xs) e i && parts_behind c xs ys (and_right (all_for_others c x.changes) (parts_for_others c xs) e) f i)
+parts_behind c xs ys e f = behind (is_for_others c) xs ys e f
 
 pub leaving_others : (c d : List ℕ) (st : SenderState) (p : Plain) → parts_for_others c (leave_if_stopped d st p) ≡ true
 leaving_others c d st p = bool_case (is_running st) (λ t. parts_for_others c (if t then [] else parts_of (leave d p)) ≡ true) (λ e. refl) (λ e. refl)
@@ -223,7 +213,7 @@ EachLanding c (Ok l) = all_for_others c l.changes ≡ true
 
 before_others : (c : List ℕ) (m : Message) (l : Landing) (s : Standing) (o : Result Landed Reason) → EachLanding c o → EachLanding c (before m l s o)
 before_others c m l s (Err reason) k = tt
-before_others c m l s (Ok r) k = others_behind c (land_changes l s) r.changes (others_behind c (drop_changes l.message s) (placed l.queue l.message) (drops_others c l.message s) refl) k
+before_others c m l s (Ok r) k = all_behind (is_for_others c) (land_changes l s) r.changes (all_behind (is_for_others c) (drop_changes l.message s) (placed l.queue l.message) (drops_others c l.message s) refl) k
 
 by_others : (c : List ℕ) (o : Result Landing Reason) (m : Message) (s : Standing) (p : Plain) (rest : Plain → Result Landed Reason) → ((q : Plain) → EachLanding c (rest q)) → EachLanding c (landed_by o m s p rest)
 by_others c (Err reason) m s p rest k = tt
@@ -242,7 +232,7 @@ places_others c e unit seen last (Err reason) n k = refl
 places_others c e unit seen last (Ok l) n k = bool_case (is_full (need (received_record e.channel unit last l)) n.manager)
     (λ t. EachForOthers c (Some (place_deed e unit seen (refused_or (if t then Some reasons.ResourceProblem else None) (Do tt (record { forced = Some (received_record e.channel unit last l); changes = l.changes ++ SetReceiver e.channel (record (receiver_or (receiver_data e.channel n.manager)) { unit = unit; last = last }) ∷ []; delta = l.delta ++ did.Received e.channel unit ∷ [] } ∷ []))) n)))
     (λ z. refl)
-    (λ z. (λ i. others_behind c l.changes (SetReceiver e.channel (record (receiver_or (receiver_data e.channel n.manager)) { unit = unit; last = last }) ∷ []) k refl i && true))
+    (λ z. (λ i. all_behind (is_for_others c) l.changes (SetReceiver e.channel (record (receiver_or (receiver_data e.channel n.manager)) { unit = unit; last = last }) ∷ []) k refl i && true))
 
 pub receivers_others : (c : List ℕ) (stamp : ℕ) (e : ReceiverEnd) (seen : Seen) (d : ReceiverDoes) (n : Node) → EachForOthers c (receiver_deed_by stamp e seen d n)
 receivers_others c stamp e seen takes.Still n = tt

@@ -1,5 +1,5 @@
 -- A network and one channel of it: what ties the two, and what a turn of an end leaves of both.
-use Rattle.std.specs.Prelude.{ℕ, Bool, true, false, not, ◌&&◌, ◌≡◌, ◌≢◌, ◌⊎◌, List, [], ◌∷◌, Option, Some, None}
+use Rattle.std.specs.Prelude.{ℕ, Bool, true, false, not, ◌≡◌, ◌≢◌, ◌⊎◌, List, [], Option, Some, None, slice_get}
 use Rattle.std.specs.Str.{bytes_eq}
 use Rattle.mq_message.specs.declared.place.Holder.TheVariants as holders
 use Rattle.mq_calls.specs.State.Change.{Hold}
@@ -10,7 +10,7 @@ use Rattle.mq_sender.specs.declared.turns.SenderDoes.{SenderDoes}
 use Rattle.mq_sender.specs.declared.turns.SenderDoes.TheVariants as does
 use Rattle.mq_history.specs.declared.scenario.Scenario.{Scenario}
 use Rattle.mq_calls.specs.State.{Change, Plain}
-use Rattle.mq_calls.specs.Steps.{Part, do_all, do_part}
+use Rattle.mq_calls.specs.Steps.{Part, do_all, do_part, delta_of}
 use Rattle.mq_calls.specs.Reads.{has_held_by_other}
 use Rattle.mq_sender.specs.States.{is_running}
 use Rattle.mq_spec_manager.specs.Agents.{Landed, queue_of_sender, received_part}
@@ -21,22 +21,19 @@ use Rattle.mq_law_channel.specs.Channel.{Channel, Facts, Past}
 use Rattle.mq_law_channel.specs.Facts.{now}
 use Rattle.mq_law_rows.specs.Families.{is_here}
 use Rattle.mq_law_rows.specs.World.{Book, Ghost, Inv, World}
-use Rattle.mq_law_seen.specs.Seen.{world_of}
-use Rattle.mq_law_events.specs.Tied.{IsNext}
+use Rattle.mq_law_seen.specs.Seen.{world_of, book_of}
+use Rattle.mq_law_events.specs.Tied.{IsNext, AreShelved, Follow, IsFresh, IsTold}
 use Rattle.mq_law_node.specs.Ends.{SendsAs, TakesAs, Where}
 use Rattle.mq_law_story.specs.Needs.{IsTied}
-use Rattle.std.specs.Prelude.{slice_get}
 use Rattle.mq_history.specs.declared.calls.Call.TheVariants as calls
 use Rattle.mq_history.specs.declared.story.ManagerPlaces.{ManagerPlaces}
 use Rattle.mq_message.specs.declared.message.Message.{Message}
-use Rattle.mq_calls.specs.Steps.{delta_of}
 use Rattle.mq_spec_network.specs.Ledger.{Ledger, post_call, take_all_gone}
 use Rattle.mq_law_manager.specs.Facts.{IsSound}
 use Rattle.mq_law_manager.specs.Kept.{AllKeep}
 use Rattle.mq_law_events.specs.Posting.{IsTimed}
-use Rattle.mq_law_events.specs.Tied.{AreShelved, Follow, IsFresh, IsTold}
-use Rattle.mq_law_seen.specs.Seen.{book_of}
 use Rattle.mq_law_receipts.specs.Receipts.{AreNumbered, IsCabled, Receipt}
+use Rattle.mq_law_seized.specs.Each.{all_of, parts_of_all}
 
 -- a network and its ledger, with what the proof follows beside them, and one channel: its sender's and its receiver's manager, and
 -- where its end stands
@@ -179,12 +176,10 @@ is_for_others channel (Hold which (holders.Batch other)) = not (bytes_eq channel
 is_for_others channel _ = true
 
 abbrev pub all_for_others : List ℕ → List Change → Bool
-all_for_others channel [] = true
-all_for_others channel (c ∷ cs) = is_for_others channel c && all_for_others channel cs
+all_for_others channel cs = all_of (is_for_others channel) cs
 
 abbrev pub parts_for_others : List ℕ → List Part → Bool
-parts_for_others channel [] = true
-parts_for_others channel (part ∷ parts) = all_for_others channel part.changes && parts_for_others channel parts
+parts_for_others channel parts = parts_of_all (is_for_others channel) parts
 
 abbrev pub EachForOthers : List ℕ → Option Deed → Type 0
 EachForOthers channel None = Unit {0}

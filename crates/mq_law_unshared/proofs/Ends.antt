@@ -44,16 +44,16 @@ use Rattle.mq_spec_node.specs.Receivers.{bind_parts, close_parts, is_receiver_de
 use Rattle.mq_spec_node.specs.Senders.{after_timeout, doubted, leave_if_stopped, prepare_deed, sender_deed, sender_deed_by, timeout_deed}
 use Rattle.mq_law_manager.specs.Kept.{AllKeep, StepKeeps}
 use Rattle.mq_law_manager.proofs.Lists.{bool_case}
-use Rattle.mq_law_seized.specs.Seized.{AreSeized, parts_plain}
-use Rattle.mq_law_seized.proofs.Changing.{parts_leave, plain_parts_behind}
+use Rattle.mq_law_seized.proofs.Each.{kept_behind, parts_behind}
+use Rattle.mq_law_seized.specs.Seized.{AreSeized, is_plain, parts_plain}
+use Rattle.mq_law_seized.proofs.Changing.{parts_leave}
 use Rattle.mq_law_seized.proofs.Bare.{parts_bare_plain, removal_bare}
 use Rattle.mq_law_seized.proofs.Seizing.{hardens, holds_seized, prepares, receives, seizes}
 use Rattle.mq_law_unshared.specs.Unshared.{EachLeaves}
 
 -- PARTS BEHIND PARTS
 pub behind : (parts : List Part) (p : Plain) → AreSeized p → AllKeep AreSeized parts p → AreSeized (do_all parts p)
-behind [] p h k = h
-behind (part ∷ parts) p h k = behind parts (do_part part p) k.0 k.1
+behind parts p h k = kept_behind AreSeized parts p h k
 
 all_then : (xs ys : List Part) (p : Plain) → AllKeep AreSeized xs p → AllKeep AreSeized ys (do_all xs p) → AllKeep AreSeized (xs ++ ys) p
 all_then [] ys p k l = l
@@ -91,7 +91,7 @@ sender_by stamp e does.PushBind n g h = leaving e.channel (sender_after e.machin
 sender_by stamp e does.Expire n g h =
     let q : List ℕ = queue_of_sender e.channel n.manager in
     parts_leave (expired_parts q (expired_rows q n.manager) ++ leave_if_stopped e.channel (sender_after e.machine does.Expire outs.Done).state n.manager) n.manager
-    (plain_parts_behind (expired_parts q (expired_rows q n.manager)) (leave_if_stopped e.channel (sender_after e.machine does.Expire outs.Done).state n.manager) (parts_bare_plain (expired_parts q (expired_rows q n.manager)) (removal_bare whys.Expired q (expired_rows q n.manager))) (leaving_plain e.channel (sender_after e.machine does.Expire outs.Done).state n.manager)) h
+    (parts_behind is_plain (expired_parts q (expired_rows q n.manager)) (leave_if_stopped e.channel (sender_after e.machine does.Expire outs.Done).state n.manager) (parts_bare_plain (expired_parts q (expired_rows q n.manager)) (removal_bare whys.Expired q (expired_rows q n.manager))) (leaving_plain e.channel (sender_after e.machine does.Expire outs.Done).state n.manager)) h
 sender_by stamp e (does.Begin i count) n g h = step_then (hold_batch e.channel (unit_named e.machine.kept.session i) count n.manager) e.channel (sender_after e.machine (does.Begin i count) outs.Done).state n.manager h (holds_seized e.channel (unit_named e.machine.kept.session i) count n.manager g h)
 sender_by stamp e (does.PushMsg index) n g h = leaving e.channel (sender_after e.machine (does.PushMsg index) outs.Done).state n.manager n.manager h
 sender_by stamp e does.Prepare n g h = prepared e (prepare e.channel (number_sent e.machine.state e.machine.kept.last) n.manager) n h (prepares e.channel (number_sent e.machine.state e.machine.kept.last) n.manager h)

@@ -3,6 +3,7 @@ pub mod Ordinary
 pub mod Deeds
 pub mod Stills
 pub mod StillDeeds
+pub mod Senders
 pub mod Opening
 pub mod Events
 pub mod Alone

@@ -1,6 +1,7 @@
 -- What leaves queues open that senders have open: over lists of changes, over parts, and what is bare.
 use Rattle.std.proofs.Common.{ℕ, ◌≡◌, Bool, true, false, List, [], ◌∷◌, ◌++◌, refl, ap, sym, ◌∙◌}
-use Rattle.std.specs.Prelude.{Option, Some, None, filter, if◌then◌else◌, is_some, not, ◌&&◌}
+use Rattle.std.proofs.lemmas.Bool.{not-true, true≢false}
+use Rattle.std.specs.Prelude.{Option, Some, None, filter, if◌then◌else◌, is_some, not}
 use Rattle.std.specs.Str.{bytes_eq}
 use Rattle.mq_objects.specs.Names.{local_of}
 use Rattle.mq_calls.specs.declared.records.LogRecord.{LogRecord}
@@ -8,46 +9,33 @@ use Rattle.mq_calls.specs.State.{Change, Plain}
 use Rattle.mq_calls.specs.declared.state.Seizure.{Seizure}
 use Rattle.mq_calls.specs.State.Change.{ForgetAll, Seize, SetBound, Try, Unseize}
 use Rattle.mq_calls.specs.Reads.{seizure_of}
-use Rattle.mq_calls.specs.Changes.{apply, apply_all, comes_before, set_named, try_if}
+use Rattle.mq_calls.specs.Changes.{apply, comes_before, set_named, try_if}
 use Rattle.mq_calls.specs.Condition.{condition}
-use Rattle.mq_calls.specs.Steps.{Part, Step, do_all, do_part, logged}
-use Rattle.mq_calls.specs.Steps.Step.{Do, Refuse}
+use Rattle.mq_calls.specs.Steps.{Part, Step, do_all, logged}
 use Rattle.mq_spec_manager.specs.Agents.{HasSeized}
 use Rattle.mq_spec_node.specs.Deeds.{parts_of}
 use Rattle.mq_law_manager.proofs.Lists.{bool_case, name_self, name_yes}
-use Rattle.mq_law_seized.proofs.Changing.{both_true}
-use Rattle.mq_law_seized.specs.Seized.{all_bare, is_bare, parts_bare, step_bare}
-use Rattle.mq_law_unshared.specs.Unshared.{all_still, all_still_for, is_still, is_still_for, parts_still, parts_still_for, step_still}
-
-true_false : true ≡ false → ⊥
-true_false e = cc
-
-not_true : (b : Bool) → not b ≡ true → b ≡ false
-not_true true e = absurd cc
-not_true false e = refl
+use Rattle.mq_law_seized.proofs.Each.{kept_behind, parts_behind, parts_keep, parts_weaker, step_weaker}
+use Rattle.mq_law_node.proofs.Quiet.{step_parts}
+use Rattle.mq_law_seized.specs.Seized.{is_bare, step_bare}
+use Rattle.mq_law_unshared.specs.Unshared.{is_still, is_still_for, parts_still, parts_still_for}
 
 -- LISTS
 pub for_behind : (c : List ℕ) (xs ys : List Part) → parts_still_for c xs ≡ true → parts_still_for c ys ≡ true → parts_still_for c (xs ++ ys) ≡ true
-for_behind c [] ys a b = b
-for_behind c (x ∷ xs) ys a b = let z = both_true (all_still_for c x.changes) (parts_still_for c xs) a in ap (λ (t : Bool). t && parts_still_for c (xs ++ ys)) z.0 ∙ for_behind c xs ys z.1 b
+for_behind c xs ys a b = parts_behind (is_still_for c) xs ys a b
 
-for_one : (c : List ℕ) (x : Change) → is_still x ≡ true → is_still_for c x ≡ true
+pub for_one : (c : List ℕ) (x : Change) → is_still x ≡ true → is_still_for c x ≡ true
 for_one c (Unseize other) e = absurd cc
 for_one c ForgetAll e = absurd cc
 for_one c x e = refl
 
-for_all : (c : List ℕ) (xs : List Change) → all_still xs ≡ true → all_still_for c xs ≡ true
-for_all c [] e = refl
-for_all c (x ∷ xs) e = let z = both_true (is_still x) (all_still xs) e in ap (λ (t : Bool). t && all_still_for c xs) (for_one c x z.0) ∙ for_all c xs z.1
-
 pub for_parts : (c : List ℕ) (xs : List Part) → parts_still xs ≡ true → parts_still_for c xs ≡ true
-for_parts c [] e = refl
-for_parts c (x ∷ xs) e = let z = both_true (all_still x.changes) (parts_still xs) e in ap (λ (t : Bool). t && parts_still_for c xs) (for_all c x.changes z.0) ∙ for_parts c xs z.1
+for_parts c xs e = parts_weaker is_still (is_still_for c) (for_one c) xs e
 
 -- WHAT IS OPEN STAYS
 has_two : (a b : Bool) (x y : Seizure) (o : Option Seizure) → (b ≡ true → a ≡ true) → is_some (if b then Some x else o) ≡ true → is_some (if a then Some y else o) ≡ true
 has_two true b x y o f e = refl
-has_two false true x y o f e = absurd (true_false (sym (f refl)))
+has_two false true x y o f e = absurd (true≢false (sym (f refl)))
 has_two false false x y o f e = e
 
 set_has : (c : List ℕ) (new : Seizure) (ss : List Seizure) → is_some (seizure_of c ss) ≡ true → is_some (seizure_of c (set_named (λ (x : Seizure). x.channel) new ss)) ≡ true
@@ -80,7 +68,7 @@ tried_has c true name p h = h
 tried_has c false name p h = h
 
 pub change_has : (c : List ℕ) (x : Change) (p : Plain) → is_still_for c x ≡ true → HasSeized c p → HasSeized c (apply x p)
-change_has c (Unseize other) p e h = less_has c other p.channels.seizures (not_true (bytes_eq c other) e) h
+change_has c (Unseize other) p e h = less_has c other p.channels.seizures (not-true (bytes_eq c other) e) h
 change_has c (Seize s) p e h = set_has c s p.channels.seizures h
 change_has c ForgetAll p e h = absurd cc
 change_has c (Try name priority) p e h = tried_has c (condition (local_of name p.definitions) priority p) name p h
@@ -88,17 +76,12 @@ change_has c (SetBound channel true) p e h = h
 change_has c (SetBound channel false) p e h = h
 change_has c x p e h = h
 
-changes_have : (c : List ℕ) (xs : List Change) (p : Plain) → all_still_for c xs ≡ true → HasSeized c p → HasSeized c (apply_all xs p)
-changes_have c [] p e h = h
-changes_have c (x ∷ xs) p e h = let z = both_true (is_still_for c x) (all_still_for c xs) e in changes_have c xs (apply x p) z.1 (change_has c x p z.0 h)
-
 logged_has : (c : List ℕ) (o : Option LogRecord) (p : Plain) → HasSeized c p → HasSeized c (logged o p)
 logged_has c None p h = h
 logged_has c (Some r) p h = h
 
 pub parts_have : (c : List ℕ) (parts : List Part) (p : Plain) → parts_still_for c parts ≡ true → HasSeized c p → HasSeized c (do_all parts p)
-parts_have c [] p e h = h
-parts_have c (part ∷ parts) p e h = let z = both_true (all_still_for c part.changes) (parts_still_for c parts) e in parts_have c parts (do_part part p) z.1 (changes_have c part.changes (logged part.forced p) z.0 (logged_has c part.forced p h))
+parts_have c parts p e h = kept_behind (HasSeized c) parts p h (parts_keep (is_still_for c) (HasSeized c) (change_has c) (logged_has c) parts p e h)
 
 -- WHAT IS BARE: what ends ask, and all calls but MQOPEN, MQGET and commands
 bare_still : (c : Change) → is_bare c ≡ true → is_still c ≡ true
@@ -106,18 +89,5 @@ bare_still (Unseize channel) e = absurd cc
 bare_still ForgetAll e = absurd cc
 bare_still c e = refl
 
-bare_all : (cs : List Change) → all_bare cs ≡ true → all_still cs ≡ true
-bare_all [] e = refl
-bare_all (c ∷ cs) e = let z = both_true (is_bare c) (all_bare cs) e in ap (λ (t : Bool). t && all_still cs) (bare_still c z.0) ∙ bare_all cs z.1
-
-pub bare_still_parts : (parts : List Part) → parts_bare parts ≡ true → parts_still parts ≡ true
-bare_still_parts [] e = refl
-bare_still_parts (part ∷ parts) e = let z = both_true (all_bare part.changes) (parts_bare parts) e in ap (λ (t : Bool). t && parts_still parts) (bare_all part.changes z.0) ∙ bare_still_parts parts z.1
-
 pub bare_parts : {F T : Type 0} (s : Step F T) → step_bare s ≡ true → parts_still (parts_of s) ≡ true
-bare_parts (Refuse reason) e = refl
-bare_parts (Do reply parts) e = bare_still_parts parts e
-
-pub step_parts : {F T : Type 0} (s : Step F T) → step_still s ≡ true → parts_still (parts_of s) ≡ true
-step_parts (Refuse reason) e = refl
-step_parts (Do reply parts) e = e
+bare_parts s e = step_parts is_still s (step_weaker is_bare is_still bare_still s e)

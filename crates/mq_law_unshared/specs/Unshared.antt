@@ -1,18 +1,17 @@
 -- Behind each part of a deed, the queues that senders have open are theirs alone; and a sender that runs has its queue open.
-use Rattle.std.specs.Prelude.{◌≡◌, Bool, true, false, not, ◌&&◌, List, [], ◌∷◌, Option}
+use Rattle.std.specs.Prelude.{◌≡◌, Bool, true, false, not, List, Option, ℕ}
 use Rattle.std.specs.Str.{bytes_eq}
-use Rattle.std.specs.Prelude.{ℕ}
 use Rattle.mq_sender.specs.States.{is_running}
 use Rattle.mq_calls.specs.State.{Change, Plain}
 use Rattle.mq_calls.specs.State.Change.{ForgetAll, Unseize}
 use Rattle.mq_calls.specs.State.Running.{Up}
 use Rattle.mq_calls.specs.Steps.{Part, Step}
-use Rattle.mq_calls.specs.Steps.Step.{Do, Refuse}
 use Rattle.mq_spec_manager.specs.Agents.{HasSeized}
 use Rattle.mq_spec_node.specs.Node.{ChannelEnd, Node, SenderEnd}
 use Rattle.mq_spec_node.specs.Node.ChannelEnd.{Sends}
 use Rattle.mq_spec_node.specs.Deeds.{Deed}
 use Rattle.mq_base.specs.Members.{Mem}
+use Rattle.mq_law_seized.specs.Each.{all_of, parts_of_all, step_of_all}
 use Rattle.mq_law_manager.specs.Kept.{AllKeep}
 use Rattle.mq_law_seized.specs.Seized.{AreSeized}
 use Rattle.mq_law_unshared.specs.Ordinary.{EachHas}
@@ -27,16 +26,13 @@ is_still ForgetAll = false
 is_still _ = true
 
 abbrev pub all_still : List Change → Bool
-all_still [] = true
-all_still (c ∷ cs) = is_still c && all_still cs
+all_still cs = all_of is_still cs
 
 abbrev pub parts_still : List Part → Bool
-parts_still [] = true
-parts_still (part ∷ parts) = all_still part.changes && parts_still parts
+parts_still parts = parts_of_all is_still parts
 
 abbrev pub step_still : {F T : Type 0} → Step F T → Bool
-step_still (Refuse reason) = true
-step_still (Do reply parts) = parts_still parts
+step_still s = step_of_all is_still s
 
 -- or at least this channel's
 abbrev pub is_still_for : List ℕ → Change → Bool
@@ -45,12 +41,10 @@ is_still_for channel ForgetAll = false
 is_still_for channel _ = true
 
 abbrev pub all_still_for : List ℕ → List Change → Bool
-all_still_for channel [] = true
-all_still_for channel (c ∷ cs) = is_still_for channel c && all_still_for channel cs
+all_still_for channel cs = all_of (is_still_for channel) cs
 
 abbrev pub parts_still_for : List ℕ → List Part → Bool
-parts_still_for channel [] = true
-parts_still_for channel (part ∷ parts) = all_still_for channel part.changes && parts_still_for channel parts
+parts_still_for channel parts = parts_of_all (is_still_for channel) parts
 
 -- each sender that runs has its queue open
 abbrev pub AreOpen : List ChannelEnd → Plain → Type 0
