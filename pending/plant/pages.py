@@ -15,6 +15,7 @@ S={
 'mq_steer':"Each public function's clauses were read for bodies beside the real one that they let through: only want of memory, of `command` and `trigger_turn`. Of seven bodies of `rt plant`'s kind four were refused (a turn or a command that does nothing, a refusal out of turn); `stop` that does nothing, with either answer, could not be judged (a limit of the tactics).",
 'mq_moves':"Each public function's clauses were read for bodies beside the real one that they let through: only want of memory. Three bodies of `rt plant`'s kind for `move_row` (nothing moved and a success told, a refusal out of turn) were all refused.",
 'mq_mqi':"Each public function's clauses were read for bodies beside the real one that they let through: only want of memory; each call is its step (`Meets`, `MeetsInRoom`) and its records (`WritesLog`). Five bodies of `rt plant`'s kind for `mqconn` and `mqclose` (nothing done and a success told, a refusal out of turn, want of memory of a close) were all refused; `mqopen` and `mqput1` that do nothing and tell of success weren't proved either (no reason was printed in time), and `mqput` had no verdict.",
+'mq_restarts':"Each public function's clauses were read for bodies beside the real one that they let through: only want of memory. Four bodies of `rt plant`'s kind for `restart` (nothing done, and a return or a fault told) could not be judged (a limit of the tactics).",
 }
 def wrapped(t,w=140):
     out=[]; line=''
