@@ -21,10 +21,9 @@ const ROWS: [(u64, &[u8; 8], &[u8; 8]); 13] = [
 
 #[test]
 fn a_moment_has_its_date_and_time(rt: HostRuntime) {
-    for (moment, date, time) in ROWS {
-        assert!(rt; moment <= LAST_MOMENT);
-        let stamp = put_stamp(moment);
-        assert!(rt; stamp.0 == *date, "the date of {moment}");
-        assert!(rt; stamp.1 == *time, "the time of {moment}");
+    for (moment, date, time) in &ROWS {
+        assert!(rt; *moment <= LAST_MOMENT);
+        let stamp = put_stamp(*moment);
+        assert!(rt; stamp.0 == **date && stamp.1 == **time, "{moment}");
     }
 }

@@ -58,13 +58,13 @@ const NO_NAMES: [&[u8]; 6] = [
 
 #[test]
 fn numbers_and_names_are_those_of_the_table(rt: HostRuntime) -> Result<(), Fail> {
-    for (number, name) in ROWS {
-        let reason = Reason::of(number).ok_or("no reason")?;
-        assert_eq!(rt; reason.number(), number);
-        assert!(rt; reason.name().as_bytes() == name, "the name of {number}");
+    for (number, name) in &ROWS {
+        let reason = Reason::of(*number).ok_or("no reason")?;
+        let is_named = reason.name().as_bytes() == *name;
+        let is_found = Reason::of_name(name) == Some(reason);
         assert!(rt;
-            Reason::of_name(name) == Some(reason),
-            "by the name of {number}"
+            reason.number() == *number && is_named && is_found,
+            "{number}"
         );
     }
     Ok(())
@@ -78,11 +78,14 @@ fn a_reason_is_printed_by_its_name(rt: HostRuntime) -> Result<(), Fail> {
     Ok(())
 }
 
+/// Numbers that are no reason's.
+const NO_NUMBERS: [u32; 8] = [0, 1, 2000, 2003, 2010, 2103, 2200, 4294967295];
+
 #[test]
 fn no_other_number_or_text_is_a_reason(rt: HostRuntime) {
     assert!(rt; Reason::of(2085) == Some(Reason::UnknownObjectName));
-    for number in [0, 1, 2000, 2003, 2010, 2103, 2200, 4294967295] {
-        assert!(rt; Reason::of(number).is_none(), "at {number}");
+    for number in &NO_NUMBERS {
+        assert!(rt; Reason::of(*number).is_none(), "{number}");
     }
     for (place, name) in NO_NAMES.iter().enumerate() {
         assert!(rt; Reason::of_name(name).is_none(), "at {place}");

@@ -8,7 +8,6 @@ use mq_index::IndexedQueue;
 use mq_message::{Bytes, Holder, Ident, Md, Message, Place, Want};
 use mq_queue::{PlainQueue, Queue, Row};
 use std::alloc::Global;
-use std::test::*;
 
 /// A linear congruential generator.
 #[derive(Drop)]
@@ -26,13 +25,6 @@ impl Dice {
             .wrapping_mul(6364136223846793005)
             .wrapping_add(1442695040888963407);
         (self.state >> 33) % 10
-    }
-}
-
-fn note(told: &mut Vec<u64>, answer: u64) -> Result<(), NoMemory> {
-    match told.push(answer) {
-        Ok(()) => Ok(()),
-        Err(_) => Err(NoMemory),
     }
 }
 
@@ -156,19 +148,24 @@ fn told_message(message: Option<Message>) -> u64 {
     }
 }
 
+/// The answer of a call that lacks memory; no other answers so.
+const LACKS: u64 = 1000000;
+
 /// Puts a message, where its ident isn't there.
 #[tactic(auto, using(mq_queue::proofs::QueueLaws::absent))]
-fn put<Q: Queue>(queue: &mut Q, message: Message) -> Result<u64, NoMemory>
+fn put<Q: Queue>(queue: &mut Q, message: Message) -> u64
     requires { Q.arrivals queue.old < 1000 }
     ensures { Q.arrivals queue.new ≤ Q.arrivals queue.old + 1 }
 {
     match queue.row(&message.ident) {
-        Some(_) => Ok(1),
-        None => {
-            queue.reserve(1)?;
-            queue.insert(message);
-            Ok(2)
-        }
+        Some(_) => 1,
+        None => match queue.reserve(1) {
+            Ok(()) => {
+                queue.insert(message);
+                2
+            }
+            Err(NoMemory) => LACKS,
+        },
     }
 }
 
@@ -193,74 +190,100 @@ fn change<Q: Queue>(queue: &mut Q, dice: &mut Dice, kind: u64) -> u64
     }
 }
 
-/// What is found.
-fn look<Q: Queue>(queue: &Q, dice: &mut Dice, told: &mut Vec<u64>) -> Result<(), NoMemory> {
-    let want = some_want(dice);
-    let after = some_place(dice);
-    note(told, told_first(queue.first(&want, after)))?;
-    note(told, told_of(queue.first_row(&want, after)))?;
-    note(told, told_of(queue.next_row(after)))?;
-    if let Some(place) = after {
-        note(told, told_of(queue.at(place)))?;
-    }
-    note(told, queue.len())?;
-    note(told, queue.free(dice.throw() as u8))
+/// What is found behind a place.
+fn found<Q: Queue>(queue: &Q, want: &Want, after: Option<Place>, least: u8) -> [u64; 6] {
+    let there = match after {
+        None => 0,
+        Some(place) => told_of(queue.at(place)),
+    };
+    [
+        told_first(queue.first(want, after)),
+        told_of(queue.first_row(want, after)),
+        told_of(queue.next_row(after)),
+        there,
+        queue.len(),
+        queue.free(least),
+    ]
 }
 
-/// One random step.
-fn step<Q: Queue>(
-    alloc: Global,
-    queue: &mut Q,
-    dice: &mut Dice,
-    told: &mut Vec<u64>,
-) -> Result<(), NoMemory>
+/// What is found.
+fn look<Q: Queue>(queue: &Q, dice: &mut Dice) -> [u64; 6] {
+    let want = some_want(dice);
+    let after = some_place(dice);
+    let least = dice.throw() as u8;
+    found(queue, &want, after, least)
+}
+
+/// The answer of one random step's call, 0 where it makes none, and what is found then.
+fn step<Q: Queue>(alloc: Global, queue: &mut Q, dice: &mut Dice) -> (u64, [u64; 6])
     requires { Q.arrivals queue.old < 1000 }
     ensures { Q.arrivals queue.new ≤ Q.arrivals queue.old + 1 }
 {
     let kind = dice.throw();
-    if kind < 3 {
-        let answer = put(queue, some_message(alloc, dice))?;
-        note(told, answer)?;
+    let answer = if kind < 3 {
+        put(queue, some_message(alloc, dice))
     } else if kind < 7 {
-        let answer = change(queue, dice, kind);
-        note(told, answer)?;
-    }
-    look(queue, dice, told)
+        change(queue, dice, kind)
+    } else {
+        0
+    };
+    (answer, look(queue, dice))
 }
 
-/// All rows, in order.
-fn tell_rows<Q: Queue>(queue: &Q, told: &mut Vec<u64>) -> Result<(), NoMemory> {
-    let mut after = None;
-    for _ in 0..200u64 {
-        match queue.next_row(after) {
-            None => return Ok(()),
-            Some(row) => {
-                note(told, told_of(Some(row)))?;
-                after = Some(row.place);
-            }
+fn are_same(told: &(u64, [u64; 6]), other: &(u64, [u64; 6])) -> bool {
+    told.0 != LACKS && told.0 == other.0 && told.1 == other.1
+}
+
+/// The first of the random steps that two queues answer otherwise, from 0, or for which memory lacks.
+fn first_other<P: Queue, Q: Queue>(
+    alloc: Global,
+    plain: &mut P,
+    indexed: &mut Q,
+    seed: u64,
+) -> Option<u64>
+    requires plain { P.arrivals plain.old ≡ 0 }
+    requires indexed { Q.arrivals indexed.old ≡ 0 }
+{
+    let mut dice = Dice { state: seed };
+    let mut again = Dice { state: seed };
+    for turn in 0..400u64 {
+        let told = step(alloc, plain, &mut dice);
+        let other = step(alloc, indexed, &mut again);
+        if !are_same(&told, &other) {
+            return Some(turn);
         }
     }
-    Ok(())
+    None
 }
 
-/// The answers of a queue to the random steps of a seed.
-fn answers<Q: Queue + Drop>(alloc: Global, seed: u64) -> Result<Vec<u64>, NoMemory> {
-    let mut dice = Dice { state: seed };
-    let mut told = Vec::new(alloc);
-    let mut queue = Q::new(alloc, dice.throw() < 7);
-    for turn in 0..400u64 {
-        step(alloc, &mut queue, &mut dice, &mut told)?;
+/// Whether two queues have the same rows, in order.
+fn have_same_rows<P: Queue, Q: Queue>(plain: &P, indexed: &Q) -> bool {
+    let mut after = None;
+    for _ in 0..200u64 {
+        if told_of(plain.next_row(after)) != told_of(indexed.next_row(after)) {
+            return false;
+        }
+        match plain.next_row(after) {
+            None => return true,
+            Some(row) => after = Some(row.place),
+        }
     }
-    tell_rows(&queue, &mut told)?;
-    Ok(told)
+    false
+}
+
+/// Whether both queues answer alike to the random steps of a seed, and have the same rows then.
+fn answer_alike(alloc: Global, seed: u64) -> bool {
+    let mut dice = Dice { state: seed };
+    let by_priority = dice.throw() < 7;
+    let mut plain = PlainQueue::new(alloc, by_priority);
+    let mut indexed = IndexedQueue::new(alloc, by_priority);
+    first_other(alloc, &mut plain, &mut indexed, dice.state).is_none()
+        && have_same_rows(&plain, &indexed)
 }
 
 #[test]
-fn both_queues_answer_alike(rt: HostRuntime) -> Result<(), Fail> {
+fn both_queues_answer_alike(rt: HostRuntime) {
     for seed in 1..=8u64 {
-        let plain = answers::<PlainQueue>(rt.alloc(), seed)?;
-        let indexed = answers::<IndexedQueue>(rt.alloc(), seed)?;
-        assert_eq!(rt; plain.as_slice(), indexed.as_slice());
+        assert!(rt; answer_alike(rt.alloc(), seed), "seed {seed}");
     }
-    Ok(())
 }

@@ -1,7 +1,8 @@
 //! mq_message: descriptors as bytes, and the message ids that a manager makes.
 
 use mq_message::{HeadFault, Ident, Md, made_msg_id, md_of, md_to_bytes};
-use std::test::Fail;
+use std::alloc::{AllocError, Global};
+use std::test::*;
 
 /// A descriptor whose fields all differ.
 fn sample() -> Md {
@@ -60,16 +61,15 @@ const PLACES: [(usize, &[u8]); 24] = [
 ];
 
 #[test]
-fn a_descriptor_stands_as_the_manual_lays_it_out(rt: HostRuntime) -> Result<(), Fail> {
+fn a_descriptor_stands_as_the_manual_lays_it_out(rt: HostRuntime) {
     let bytes = md_to_bytes(&sample());
-    for (place, piece) in PLACES {
-        let there = bytes
-            .get(place..)
-            .ok_or("outside the descriptor")?
-            .starts_with(piece);
+    for (place, piece) in &PLACES {
+        let there = match bytes.get(*place..) {
+            None => false,
+            Some(rest) => rest.starts_with(piece),
+        };
         assert!(rt; there, "at {place}");
     }
-    Ok(())
 }
 
 #[test]
@@ -81,27 +81,44 @@ fn a_descriptor_is_read_back(rt: HostRuntime) -> Result<(), Fail> {
     Ok(())
 }
 
-#[test]
-fn a_descriptor_is_refused_by_length_then_id_then_version(rt: HostRuntime) {
-    let bytes = md_to_bytes(&sample());
-    for len in 0..324usize {
-        assert!(rt;
-            fault_of(&bytes[..len]) == Some(HeadFault::Short),
-            "at {len} bytes"
-        );
-    }
-    let mut other_id = bytes;
-    other_id[0] = b'X';
-    other_id[7] = 2;
-    assert!(rt; fault_of(&other_id) == Some(HeadFault::BadId));
-    let mut version_2 = bytes;
-    version_2[7] = 2;
-    assert!(rt; fault_of(&version_2) == Some(HeadFault::BadVersion));
-    assert!(rt; fault_of(&bytes).is_none());
-}
-
 fn fault_of(bytes: &[u8]) -> Option<HeadFault> {
     md_of(bytes).err()
+}
+
+#[test]
+fn each_shorter_length_is_short(rt: HostRuntime) {
+    let bytes = md_to_bytes(&sample());
+    for len in 0..324usize {
+        let (front, _) = bytes.split_at(len);
+        assert!(rt; fault_of(front) == Some(HeadFault::Short), "at {len} bytes");
+    }
+}
+
+/// Other bytes at some places, and what is told of them: an id before a version.
+const SPOILED: [(&[(usize, u8)], Option<HeadFault>); 3] = [
+    (&[(0, b'X'), (7, 2)], Some(HeadFault::BadId)),
+    (&[(7, 2)], Some(HeadFault::BadVersion)),
+    (&[], None),
+];
+
+/// The bytes of the sample with other bytes at these places.
+fn spoiled(alloc: Global, others: &[(usize, u8)]) -> Result<Vec<u8>, AllocError> {
+    let mut bytes = Vec::from_slice(alloc, &md_to_bytes(&sample()))?;
+    for (place, other) in others {
+        if let Some(byte) = bytes.get_mut(*place) {
+            *byte = *other;
+        }
+    }
+    Ok(bytes)
+}
+
+#[test]
+fn a_bad_id_is_told_before_a_bad_version(rt: HostRuntime) -> Result<(), Fail> {
+    for (row, (others, fault)) in SPOILED.iter().enumerate() {
+        let bytes = spoiled(rt.alloc(), others)?;
+        assert_eq!(rt; fault_of(&bytes), *fault, "row {row}");
+    }
+    Ok(())
 }
 
 #[test]

@@ -6,42 +6,68 @@ use mq_resolve::{PathStep, Route, RouteEnd, resolve};
 use std::alloc::{AllocError, Global};
 use std::test::*;
 
-fn add(defs: &mut Defs, object: Object) -> Result<(), AllocError> {
-    defs.reserve()?;
-    defs.set(object);
-    Ok(())
+/// An object of a manager, or its default transmission queue.
+enum Made {
+    Default(&'static str),
+    Local(&'static str, Usage),
+    /// An alias, and what it names.
+    Alias(&'static str, &'static str),
+    /// A remote queue, and its RNAME, RQMNAME and XMITQ.
+    Remote(&'static str, &'static str, &'static str, &'static str),
 }
 
-fn add_local(alloc: Global, defs: &mut Defs, name: &str, usage: Usage) -> Result<(), AllocError> {
+fn local(alloc: Global, name: &str, usage: Usage) -> Object {
     let mut queue = LocalQueue::new(alloc, name_of(name));
     queue.usage = usage;
-    add(defs, Object::Local(queue))
+    Object::Local(queue)
 }
 
-fn add_alias(alloc: Global, defs: &mut Defs, name: &str, target: &str) -> Result<(), AllocError> {
+fn alias(alloc: Global, name: &str, target: &str) -> Object {
     let mut queue = AliasQueue::new(alloc, name_of(name));
     queue.target = name_of(target);
-    add(defs, Object::Alias(queue))
+    Object::Alias(queue)
 }
 
-fn add_remote(
-    alloc: Global,
-    defs: &mut Defs,
-    name: &str,
-    leads: [&str; 3],
-) -> Result<(), AllocError> {
-    let [remote_name, manager, xmitq] = leads;
+fn remote(alloc: Global, name: &str, remote_name: &str, manager: &str, xmitq: &str) -> Object {
     let mut queue = RemoteQueue::new(alloc, name_of(name));
     queue.remote_name = name_of(remote_name);
     queue.remote_manager = name_of(manager);
     queue.transmission_queue = name_of(xmitq);
-    add(defs, Object::Remote(queue))
+    Object::Remote(queue)
 }
 
 fn set_default(alloc: Global, defs: &mut Defs, name: &str) {
     let mut attributes = ManagerAttributes::new(alloc);
     attributes.default_transmission_queue = name_of(name);
     defs.set_manager(attributes);
+}
+
+fn add(defs: &mut Defs, object: Object) -> Result<(), AllocError> {
+    defs.reserve()?;
+    defs.set(object);
+    Ok(())
+}
+
+fn make(alloc: Global, defs: &mut Defs, made: &Made) -> Result<(), AllocError> {
+    let object = match made {
+        Made::Default(name) => {
+            set_default(alloc, defs, name);
+            return Ok(());
+        }
+        Made::Local(name, usage) => local(alloc, name, *usage),
+        Made::Alias(name, target) => alias(alloc, name, target),
+        Made::Remote(name, remote_name, manager, xmitq) => {
+            remote(alloc, name, remote_name, manager, xmitq)
+        }
+    };
+    add(defs, object)
+}
+
+fn make_all(alloc: Global, defs: &mut Defs, all: &[Made]) -> Result<(), AllocError> {
+    for made in all {
+        make(alloc, defs, made)?;
+    }
+    Ok(())
 }
 
 fn write_end(text: &mut String, end: &RouteEnd) -> Result<(), AllocError> {
@@ -77,16 +103,20 @@ fn told(alloc: Global, defs: &Defs, name: &str, manager: &str) -> Result<String,
     Ok(text)
 }
 
+const LONDON: [Made; 8] = [
+    Made::Default("T"),
+    Made::Local("T", Usage::Transmission),
+    Made::Remote("ROME", "", "MILAN", ""),
+    Made::Remote("RA", "X", "ROMA", ""),
+    Made::Alias("A1", "RA"),
+    Made::Alias("A2", "A1"),
+    Made::Local("N", Usage::Normal),
+    Made::Remote("RN", "X", "P", "N"),
+];
+
 fn london(alloc: Global) -> Result<Defs, AllocError> {
     let mut defs = Defs::new(alloc);
-    set_default(alloc, &mut defs, "T");
-    add_local(alloc, &mut defs, "T", Usage::Transmission)?;
-    add_remote(alloc, &mut defs, "ROME", ["", "MILAN", ""])?;
-    add_remote(alloc, &mut defs, "RA", ["X", "ROMA", ""])?;
-    add_alias(alloc, &mut defs, "A1", "RA")?;
-    add_alias(alloc, &mut defs, "A2", "A1")?;
-    add_local(alloc, &mut defs, "N", Usage::Normal)?;
-    add_remote(alloc, &mut defs, "RN", ["X", "P", "N"])?;
+    make_all(alloc, &mut defs, &LONDON)?;
     Ok(defs)
 }
 
@@ -106,40 +136,41 @@ const OPENS: [(&str, &str, &str); 12] = [
     ("", "ROME", "2184"),
 ];
 
+/// Whether a name at a manager's name leads there.
+fn leads(alloc: Global, defs: &Defs, row: &(&str, &str, &str)) -> Result<bool, AllocError> {
+    let (name, manager, wanted) = row;
+    let text = told(alloc, defs, name, manager)?;
+    Ok(text.as_str() == *wanted)
+}
+
 #[test]
 fn names_of_a_manager_lead_where_the_manual_says(rt: HostRuntime) -> Result<(), Fail> {
     let defs = london(rt.alloc())?;
-    for (name, manager, wanted) in OPENS {
-        let text = told(rt.alloc(), &defs, name, manager)?;
-        assert_eq!(rt; text.as_str(), wanted);
+    for row in &OPENS {
+        assert!(rt; leads(rt.alloc(), &defs, row)?, "{row:?}");
     }
     Ok(())
 }
 
-/// Aliases with what they name, beside those of `london`.
-const ALIASES: [(&str, &str); 3] = [("BLANK", ""), ("LOST", "NOWHERE"), ("AN", "N")];
-
-/// Remote queues with their RNAME, RQMNAME and XMITQ, beside those of `london`.
-const REMOTES: [(&str, [&str; 3]); 8] = [
-    ("NOQM", ["X", "", ""]),
-    ("OWN", ["X", "LONDON", ""]),
-    ("NOXQ", ["X", "P", "NOWHERE"]),
-    ("ALXQ", ["X", "P", "A1"]),
-    ("BYT2", ["X", "P", "T2"]),
-    ("HERE", ["", "", ""]),
-    ("LON", ["", "LONDON", ""]),
-    ("FAR", ["", "MILAN", "T2"]),
+/// What stands beside the objects of `london`.
+const BREADTH: [Made; 12] = [
+    Made::Local("T2", Usage::Transmission),
+    Made::Alias("BLANK", ""),
+    Made::Alias("LOST", "NOWHERE"),
+    Made::Alias("AN", "N"),
+    Made::Remote("NOQM", "X", "", ""),
+    Made::Remote("OWN", "X", "LONDON", ""),
+    Made::Remote("NOXQ", "X", "P", "NOWHERE"),
+    Made::Remote("ALXQ", "X", "P", "A1"),
+    Made::Remote("BYT2", "X", "P", "T2"),
+    Made::Remote("HERE", "", "", ""),
+    Made::Remote("LON", "", "LONDON", ""),
+    Made::Remote("FAR", "", "MILAN", "T2"),
 ];
 
 fn breadth(alloc: Global) -> Result<Defs, AllocError> {
     let mut defs = london(alloc)?;
-    add_local(alloc, &mut defs, "T2", Usage::Transmission)?;
-    for (name, target) in ALIASES {
-        add_alias(alloc, &mut defs, name, target)?;
-    }
-    for (name, leads) in REMOTES {
-        add_remote(alloc, &mut defs, name, leads)?;
-    }
+    make_all(alloc, &mut defs, &BREADTH)?;
     Ok(defs)
 }
 
@@ -165,25 +196,27 @@ const ROWS: [(&str, &str, &str); 15] = [
 #[test]
 fn each_row_of_the_tables_answers(rt: HostRuntime) -> Result<(), Fail> {
     let defs = breadth(rt.alloc())?;
-    for (name, manager, wanted) in ROWS {
-        let text = told(rt.alloc(), &defs, name, manager)?;
-        assert_eq!(rt; text.as_str(), wanted);
+    for row in &ROWS {
+        assert!(rt; leads(rt.alloc(), &defs, row)?, "{row:?}");
     }
     Ok(())
 }
 
+/// Default transmission queues, and what is told of a message to another manager.
+const DEFAULTS: [(&str, &str); 4] = [
+    ("", "2087"),
+    ("NOWHERE", "2197"),
+    ("A1", "2198"),
+    ("N", "2199"),
+];
+
 #[test]
 fn a_bad_defxmitq_is_told(rt: HostRuntime) -> Result<(), Fail> {
     let mut defs = london(rt.alloc())?;
-    for (name, wanted) in [
-        ("", "2087"),
-        ("NOWHERE", "2197"),
-        ("A1", "2198"),
-        ("N", "2199"),
-    ] {
+    for (name, wanted) in &DEFAULTS {
         set_default(rt.alloc(), &mut defs, name);
-        let text = told(rt.alloc(), &defs, "Y", "PARIS")?;
-        assert_eq!(rt; text.as_str(), wanted);
+        let right = leads(rt.alloc(), &defs, &("Y", "PARIS", wanted))?;
+        assert!(rt; right, "{name}");
     }
     Ok(())
 }
