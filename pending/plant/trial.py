@@ -87,7 +87,7 @@ def check(batch):
             # (all are checked, and an offer takes too long)
             if re.search(r'(?m)^checked \S+, (\d+) of \1$',now):
                 ended=ended or time.time()
-                if time.time()-max(ended,newest())>60:
+                if time.time()-max(ended,newest())>150:
                     for q in children(p.pid):
                         try: os.kill(q,9)
                         except ProcessLookupError: pass
