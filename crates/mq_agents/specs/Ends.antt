@@ -18,7 +18,7 @@ use Rattle.mq_calls.specs.declared.agents.PlaceFault.TheVariants as place_faults
 use Rattle.mq_calls.specs.declared.commands.Halt.TheVariants as halts
 use Rattle.mq_calls.specs.declared.deltas.Did.TheVariants as did
 use Rattle.mq_spec_manager.specs.Words.{Never}
-use Rattle.mq_spec_manager.specs.Agents.{kept_by, seize}
+use Rattle.mq_spec_manager.specs.Agents.{seize}
 
 -- how a call ends that is not refused
 abbrev pub halt_of : {F : Type 0} → AgentStop → Halt F
@@ -64,10 +64,10 @@ abbrev pub by_place : {T : Type 0} → Result T PlaceFault → Result T (Halt Re
 by_place (Ok value) = Ok value
 by_place (Err fault) = Err (place_halt fault)
 
--- what is kept of a channel's ends
+-- what is kept of a channel's ends, as it is told: both of them, where anything is
 abbrev pub kept_of : Option (Option SenderData × Option ReceiverData) → Option ChannelData
 kept_of None = None
-kept_of (Some k) = kept_by k.0 k.1
+kept_of (Some k) = Some (record { sender = k.0; receiver = k.1 })
 
 -- a row that the handler sees
 abbrev pub place_and_message : Row → Place × Message

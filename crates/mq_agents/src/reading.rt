@@ -30,10 +30,19 @@ pub fn kept<'a, D: Disk>(core: &'a Core<D>, channel: &ChName) -> Option<Hardened
 {
     let sender = sender_of(&core.parts.ends.senders, channel);
     let receiver = receiver_of(&core.parts.ends.receivers, channel);
-    if sender.is_none() && receiver.is_none() {
-        return None;
+    match sender {
+        Some(sender) => Some(Hardened {
+            sender: Some(sender),
+            receiver,
+        }),
+        None => match receiver {
+            None => None,
+            Some(receiver) => Some(Hardened {
+                sender: None,
+                receiver: Some(receiver),
+            }),
+        },
     }
-    Some(Hardened { sender, receiver })
 }
 
 /// The definitions. It takes no memory.
