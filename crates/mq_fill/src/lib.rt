@@ -5,7 +5,6 @@ mod defaults;
 mod descriptor;
 mod refusals;
 mod replies;
-mod text;
 
 pub use defaults::{default_persistent, default_priority, first_on};
 pub use descriptor::{Draft, deadline_of, make_draft};

@@ -3,8 +3,7 @@ ghost use Rattle.std.specs.Prelude.{◌≡◌, option_copied};
 ghost use Rattle.mq_base.specs.Name.{name_of, padded, trimmed};
 ghost use Rattle.mq_spec_manager.specs.Words.{is_blank, replies_by, replies_to, named_by};
 
-use crate::text::trimmed;
-use mq_base::QName;
+use mq_base::{QName, trimmed};
 use mq_objects::{Defs, Object};
 
 /// The fields ReplyToQ and ReplyToQMgr, padded with blanks.

@@ -11,4 +11,4 @@ mod texts;
 pub use calls::{deadline_of, line_call, wait_of};
 pub use copies::copy_command;
 pub use memory::Memory;
-pub use texts::{appl_name, trimmed};
+pub use texts::appl_name;

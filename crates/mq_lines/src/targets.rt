@@ -3,8 +3,7 @@ ghost use Rattle.std.specs.Prelude.{◌≡◌};
 ghost use Rattle.mq_spec_node.specs.Scripts as scripts;
 ghost use Rattle.mq_spec_node.specs.Scripts.{nowhere, manager_target, queue_target, reply_target};
 
-use crate::texts::trimmed;
-use mq_base::QName;
+use mq_base::{QName, trimmed};
 use mq_message::Md;
 use std::marker::Model;
 

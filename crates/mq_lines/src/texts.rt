@@ -1,21 +1,8 @@
-//! Texts of fields: without the blanks at their end, and with blanks behind them.
+//! Texts of fields with blanks behind them.
 ghost use Rattle.std.specs.Prelude.{◌≡◌, ◌≤◌, length};
-ghost use Rattle.mq_base.specs.Name.{padded, trimmed};
+ghost use Rattle.mq_base.specs.Name.{padded};
 
 use mq_base::Label;
-
-/// A field's text without the blanks at its end.
-pub fn trimmed(field: &[u8]) -> &[u8]
-    ensures text { result.now ≡ trimmed field.now }
-    ensures within { length result.now ≤ length field.now }
-{
-    let mut len = field.len();
-    'trimming: while len > 0 && field[len - 1] == b' ' {
-        len -= 1;
-    }
-    let (text, _) = field.split_at(len);
-    text
-}
 
 /// The text with blanks behind it.
 fn blank_behind<const N: usize>(text: &[u8]) -> [u8; N]

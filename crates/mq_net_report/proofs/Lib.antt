@@ -1,4 +1,3 @@
 pub mod RowsReport
 pub mod PartLaws
 pub mod StepLaws
-pub mod TrimLemmas

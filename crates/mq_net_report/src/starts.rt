@@ -1,28 +1,14 @@
 //! The scripts that a monitor began.
-ghost use Rattle.std.specs.Prelude.{◌≡◌, ◌==◌, ◌&&◌, ◌++◌, ◌+◌, if◌then◌else◌, IfOk, IfSome, ◌≤◌, length};
+ghost use Rattle.std.specs.Prelude.{◌≡◌, ◌==◌, ◌&&◌, ◌++◌, ◌+◌, if◌then◌else◌, IfOk, IfSome};
 ghost use Rattle.std.specs.Str.{bytes_eq};
-ghost use Rattle.mq_base.specs.Name.{trimmed};
 ghost use Rattle.mq_heads.specs.Headers.{tm_read};
 ghost use Rattle.mq_net_report.specs.Steps.{got_body, script_at, is_fresh, begins, is_start, starts_in};
 
 use crate::steps::{count_lines, is_watch};
-use mq_base::NoMemory;
+use mq_base::{NoMemory, trimmed};
 use mq_calls::Answer;
 use mq_heads::tm_of;
 use mq_history::{Entry, Reply, Scenario, ScriptPart};
-
-/// A field's text without the blanks at its end.
-fn trimmed(field: &[u8]) -> &[u8]
-    ensures text { result.now ≡ trimmed field.now }
-    ensures within { length result.now ≤ length field.now }
-{
-    let mut len = field.len();
-    'trimming: while len > 0 && field[len - 1] == b' ' {
-        len -= 1;
-    }
-    let (text, _) = field.split_at(len);
-    text
-}
 
 /// Whether a script is of a manager, and has a label.
 fn is_named(part: &ScriptPart, manager: u64, label: &[u8]) -> bool

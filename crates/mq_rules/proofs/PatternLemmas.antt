@@ -1,10 +1,10 @@
--- How the places of a text are found from the pattern's end on, and how blanks are taken off a text's end.
-use Rattle.std.proofs.Common.{◌≡◌, ◌≢◌, ℕ, zero, suc, ◌+◌, ◌-◌, ◌<◌, ◌≤◌, ◌==◌, Bool, true, false, List, [], ◌∷◌, ◌++◌, length, take, drop, get_or, set, replicate, ltb, subst, refl, sym, ap, ◌∙◌, arith}
+-- How the places of a text are found from the pattern's end on.
+use Rattle.std.proofs.Common.{◌≡◌, ◌≢◌, ℕ, zero, suc, ◌+◌, ◌-◌, ◌<◌, ◌≤◌, ◌==◌, Bool, true, false, List, [], ◌∷◌, length, drop, get_or, set, replicate, ltb, subst, refl, sym, ap, ◌∙◌, arith}
 use Rattle.std.specs.Prelude.{◌&&◌, ◌||◌}
 use Rattle.std.proofs.lemmas.Bool.Decides.{nat_tests}
 use Rattle.std.proofs.lemmas.Bool.{ltb-true, ltb-false}
-use Rattle.std.proofs.lemmas.List.{drop_more, take_more, get_or-set_same, get_or-set_other, length-replicate}
-use Rattle.mq_rules.specs.Patterns.{like, some_rest, first_and_rest, onto_text, trimmed, AreLike}
+use Rattle.std.proofs.lemmas.List.{drop_more, get_or-set_same, get_or-set_other, length-replicate}
+use Rattle.mq_rules.specs.Patterns.{like, some_rest, first_and_rest, AreLike}
 
 unlike : (c : ℕ) → c ≢ 42 → (c == 42) ≡ false
 unlike c ne = grind (arith, nat_tests)
@@ -70,26 +70,3 @@ only_end_like n text lt =
     let within : length text < length (replicate n false) = omega arith in
     ends_like (set (replicate n false) (length text) true) text (get_or-set_same (replicate n false) (length text) true false within)
     (λ i before. let other : i ≢ length text = omega arith in get_or-set_other (replicate n false) (length text) i true false other ∙ get_or-none n i)
-
-pub trimmed-blank : (xs : List ℕ) → trimmed (xs ++ 32 ∷ []) ≡ trimmed xs
-trimmed-blank [] = refl
-trimmed-blank (x ∷ xs) = ap (onto_text x) (trimmed-blank xs)
-
-onto_some : (x b : ℕ) (xs : List ℕ) → onto_text x (xs ++ b ∷ []) ≡ x ∷ (xs ++ b ∷ [])
-onto_some x b [] = refl
-onto_some x b (y ∷ ys) = refl
-
-pub trimmed-nonblank : (xs : List ℕ) (b : ℕ) → b ≢ 32 → trimmed (xs ++ b ∷ []) ≡ xs ++ b ∷ []
-trimmed-nonblank [] b ne = let other : (b == 32) ≡ false = grind (arith, nat_tests) in rw other refl
-trimmed-nonblank (x ∷ xs) b ne = ap (onto_text x) (trimmed-nonblank xs b ne) ∙ onto_some x b xs
-
--- a text is taken off a blank at its end
-pub trimmed-take_blank : (xs : List ℕ) (n : ℕ) → n < length xs → get_or xs n 0 ≡ 32 → trimmed (take (n + 1) xs) ≡ trimmed (take n xs)
-trimmed-take_blank xs n lt e =
-    ap trimmed (take_more xs n 0 lt ∙ ap (λ (b : ℕ). take n xs ++ b ∷ []) e) ∙ trimmed-blank (take n xs)
-
--- and ends with another byte
-pub trimmed-take_other : (xs : List ℕ) (n : ℕ) → n < length xs → get_or xs n 0 ≢ 32 → trimmed (take (n + 1) xs) ≡ take (n + 1) xs
-trimmed-take_other xs n lt ne =
-    let e = take_more xs n 0 lt in
-    ap trimmed e ∙ trimmed-nonblank (take n xs) (get_or xs n 0) ne ∙ sym e

@@ -3,9 +3,9 @@
 ghost use Rattle.std.specs.Prelude.{◌≡◌, ◌≤◌, length, position, drop};
 ghost use Rattle.mq_rules.specs.Choice.{text_field, number_field, holds, matches, decision, target_name, name_in};
 
-use crate::pattern::{is_like, trimmed};
+use crate::pattern::is_like;
 use crate::rule::{Condition, NumberField, Rule, Table, Target, TextField};
-use mq_base::QName;
+use mq_base::{QName, trimmed};
 use mq_heads::Dlh;
 use mq_message::Md;
 

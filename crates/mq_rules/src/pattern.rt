@@ -1,7 +1,7 @@
 //! Patterns of texts: matched in time of the pattern's length times the text's, and with no memory.
 
 ghost use Rattle.std.specs.Prelude.{◌≡◌, ℕ, List, ◌+◌, ◌<◌, ◌≤◌, ◌==◌, ◌||◌, ◌&&◌, ◌∷◌, false, length, slice_index, slice_index_or};
-ghost use Rattle.mq_rules.specs.Patterns.{like, trimmed, AreLike};
+ghost use Rattle.mq_rules.specs.Patterns.{like, AreLike};
 
 /// The longest text that is matched.
 const LONGEST: usize = 48;
@@ -57,17 +57,4 @@ fn pass_one(places: &mut [bool], byte: u8, text: &[u8])
         places[at] = (byte == b'?' || byte == *b) && places[at + 1];
     }
     places[text.len()] = false;
-}
-
-/// A field's text without the blanks at its end.
-pub fn trimmed(field: &[u8]) -> &[u8]
-    ensures text { result.now ≡ trimmed field.now }
-    ensures within { length result.now ≤ length field.now }
-{
-    let mut len = field.len();
-    'trimming: while len > 0 && field[len - 1] == b' ' {
-        len -= 1;
-    }
-    let (text, _) = field.split_at(len);
-    text
 }

@@ -5,10 +5,10 @@ ghost use Rattle.std.specs.Str.{bytes_eq};
 ghost use Rattle.mq_spec_node.specs.Words.{begins, got_body, is_script, is_trigger, lines_done, script_named, unless_begun};
 ghost use Rattle.mq_watch.specs.Turns.{is_line};
 
+use mq_base::trimmed;
 use mq_calls::Answer;
 use mq_heads::tm_of;
 use mq_history::{Actor, Call, Entry, Reply};
-use mq_lines::trimmed;
 use mq_own::Script;
 
 /// The body that a get answered; empty where it answered none.

@@ -1,6 +1,6 @@
 use Rattle.std.proofs.Common.{◌≡◌, ◌≤◌, length, take}
 use Rattle.mq_base.specs.Name.{trimmed}
-use Rattle.mq_fill.proofs.text.trimmed.Given as goal
+use Rattle.mq_base.proofs.text.trimmed.Given as goal
 
 abbrev pub invariant-trimming : goal.invariant-trimming
 invariant-trimming l = record {

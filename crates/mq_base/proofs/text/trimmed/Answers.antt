@@ -1,8 +1,8 @@
 use Rattle.std.proofs.Common.{◌≡◌, ◌≢◌, ◌≤◌, ◌<◌, ◌+◌, ◌-◌, ℕ, List, refl, length, take, get_or, sym, ap, ◌∙◌, arith}
-use Rattle.mq_rules.specs.Patterns.{trimmed}
-use Rattle.mq_rules.proofs.PatternLemmas.{trimmed-take_blank, trimmed-take_other}
-use Rattle.mq_rules.proofs.pattern.trimmed.Goals as goal
-use Rattle.mq_rules.proofs.pattern.trimmed.Goals.{then-trimming-test+else-field-len-eq32, else-trimming-test}
+use Rattle.mq_base.specs.Name.{trimmed}
+use Rattle.mq_base.proofs.TrimLemmas.{trimmed-take_blank, trimmed-take_other}
+use Rattle.mq_base.proofs.text.trimmed.Goals as goal
+use Rattle.mq_base.proofs.text.trimmed.Goals.{then-trimming-test+else-field-len-eq32, else-trimming-test}
 
 pub trimming-preserved : goal.trimming-preserved
 trimming-preserved c =
