@@ -7,10 +7,11 @@ ghost use Rattle.mq_spec_network.specs.Ledger.{connection_of, resolved_at, row_i
 ghost use Rattle.mq_objects.specs.Names.{local_of};
 ghost use Rattle.mq_net_ledger.specs.Posts.{put_by_of, put_of, put1_by_of, put1_of, routed, moved_of, received_of, trigger_of};
 
-use crate::messages::{bare_if, dead_message, names_of};
+use crate::messages::bare_if;
 use mq_base::{ChName, NoMemory, QName};
 use mq_calls::{Hconn, Hobj};
 use mq_codes::Reason;
+use mq_fill::{dead_message, names_of};
 use mq_message::{Bytes, Dest, Ident, Md, Message};
 use mq_net_books::{Books, Caller};
 use mq_objects::LocalQueue;
