@@ -1,5 +1,5 @@
 -- The next line of a script: what comes next of it was done.
-use Rattle.std.proofs.Common.{◌≡◌, ℕ, ◌-◌, Bool, true, false, List, refl, sym, ap, subst, ◌∙◌, arith}
+use Rattle.std.proofs.Common.{◌≡◌, ℕ, Bool, true, false, List, refl, sym, ap, subst, ◌∙◌, arith}
 use Rattle.std.specs.Prelude.{Option, Some, None, Result, Ok, Err, IsSome, IfSome, slice_get}
 use Rattle.std.specs.Option.{option_map}
 use Rattle.mq_base.specs.declared.want.NoMemory.{NoMemory}
