@@ -8,7 +8,6 @@ use Rattle.mq_objects.specs.declared.object.Object.{Object}
 use Rattle.mq_objects.specs.declared.object.Object.TheVariants as objects
 use Rattle.mq_objects.specs.declared.command.Subject.{Subject}
 use Rattle.mq_objects.specs.declared.command.Command.{Command}
-use Rattle.mq_objects.specs.declared.command.Delete.{Delete}
 use Rattle.mq_objects.specs.declared.change.ObjectChange.{ObjectChange}
 use Rattle.mq_objects.specs.declared.change.ObjectChange.TheVariants as changes
 use Rattle.mq_objects.specs.Names.{Space, Queues, as_local, is_object, is_transmission, local_of, name_of, named, object_in, same_space, space_of, subject_name, subject_space}
