@@ -33,6 +33,7 @@ use Rattle.mq_spec_log.specs.Applies.Start.{Later}
 use Rattle.mq_law_manager.specs.Facts.{Mem, AreNamed, IsFrozen, IsSound}
 use Rattle.mq_law_manager.proofs.Lists.{bool_case}
 use Rattle.mq_law_manager.proofs.Named.{name_self, name_turned, queue_set, queue_mapped, queue_dropped}
+use Rattle.mq_law_manager.proofs.Untouched.{changes_untouched}
 use Rattle.mq_law_log.proofs.Bridge.{all_of}
 use Rattle.mq_law_image.specs.Bounds.{IsBounded, all_growth, need_of, part_growth, parts_growth, step_growth, noted_growth, restart_growth, HaveArrived}
 use Rattle.mq_law_image.proofs.Growing.{Rises, bounded_by, rise_on, all_rise, still_rises, mapped_rise, handles_more, le_self, le_refl}
@@ -212,22 +213,8 @@ redone_arrived false noted p h = h
 
 -- ---- a restart
 
-tried_running : (b : Bool) (name : List ℕ) (p : Plain) → (try_if b name p).running ≡ p.running
-tried_running true name p = refl
-tried_running false name p = refl
-
-running_kept : (c : Change) (p : Plain) → (apply c p).running ≡ p.running
-running_kept (Try name priority) p = tried_running (condition (local_of name p.definitions) priority p) name p
-running_kept (SetBound channel true) p = refl
-running_kept (SetBound channel false) p = refl
-running_kept c p = refl
-
-all_running : (cs : List Change) (p : Plain) → (apply_all cs p).running ≡ p.running
-all_running [] p = refl
-all_running (c ∷ cs) p = all_running cs (apply c p) ∙ running_kept c p
-
 redone_running : (kept : Bool) (noted : Option Noted) (p : Plain) → (redone_if kept noted p).running ≡ p.running
-redone_running true (Some n) p = all_running n.changes (record p { log = stands_in n.written p.log })
+redone_running true (Some n) p = (changes_untouched n.changes (record p { log = stands_in n.written p.log })).running
 redone_running true None p = refl
 redone_running false noted p = refl
 

@@ -56,7 +56,7 @@ rests doubt queue ident None h = refl
 rests doubt queue ident (Some (holders.Unit n)) h = absurd h
 rests doubt queue ident (Some (holders.Batch c)) h = refl
 
-begun_lasts : (g : Given) (i : Image) (log : LogState) (moment : ℕ) → IsSoFar g.number i → lasting (begun g (raised 0 i) log moment) ≡ raised 0 i
+pub begun_lasts : (g : Given) (i : Image) (log : LogState) (moment : ℕ) → IsSoFar g.number i → lasting (begun g (raised 0 i) log moment) ≡ raised 0 i
 begun_lasts g i log moment h = ap (λ (ss : List Shelf). record (raised 0 i) { shelves = ss }) (shelves_back i.shelves (λ s row m n. let r = h.rows.row s row m n in record {
   persistent = r.persistent;
   uncounted = r.uncounted;

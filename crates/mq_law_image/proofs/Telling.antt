@@ -9,14 +9,11 @@ use Rattle.mq_calls.specs.declared.records.LogRecord.{LogRecord}
 use Rattle.mq_calls.specs.declared.records.LogRecord.TheVariants as records
 use Rattle.mq_calls.specs.declared.commands.RestartFault.{RestartFault}
 use Rattle.mq_calls.specs.declared.commands.RestartFault.TheVariants as faults
-use Rattle.mq_objects.specs.Names.{local_of}
 use Rattle.mq_record.specs.Records.{record_bytes}
 use Rattle.mq_log.specs.Bodies.{frame}
-use Rattle.mq_calls.specs.State.{Plain, Change, Given, Noted, Running, LogState}
+use Rattle.mq_calls.specs.State.{Plain, Given, Noted, Running, LogState}
 use Rattle.mq_calls.specs.State.Running.{Up}
-use Rattle.mq_calls.specs.State.Change.{Try, SetBound}
-use Rattle.mq_calls.specs.Condition.{condition}
-use Rattle.mq_calls.specs.Changes.{apply, apply_all, try_if}
+use Rattle.mq_calls.specs.Changes.{apply_all}
 use Rattle.mq_calls.specs.Images.{lasting, begun, raised}
 use Rattle.mq_calls.specs.declared.image.Image.{Image}
 use Rattle.mq_calls.specs.Steps.{Part, freeze, note_of, do_part, stands_in}
@@ -28,6 +25,7 @@ use Rattle.mq_spec_log.specs.Bodies.{record_of, behind, or_place, image_from, be
 use Rattle.mq_spec_log.proofs.BodyLaws.{image_more, record_back}
 use Rattle.mq_law_manager.proofs.Lists.{bool_case}
 use Rattle.mq_law_manager.proofs.Named.{name_self}
+use Rattle.mq_law_manager.proofs.Untouched.{changes_untouched}
 use Rattle.mq_law_log.specs.Restarts.{IsHarmless, IsGivenIn, gone}
 use Rattle.mq_law_log.proofs.Stops.{frozen_lasts, rest_lasts, restart_recovers}
 use Rattle.mq_law_log.proofs.Ties.{told, written_tied}
@@ -36,22 +34,8 @@ use Rattle.mq_law_image.proofs.Members.{both}
 
 -- ---- what is given stays
 
-tried_given : (b : Bool) (name : List ℕ) (p : Plain) → (try_if b name p).given ≡ p.given
-tried_given true name p = refl
-tried_given false name p = refl
-
-given_kept : (c : Change) (p : Plain) → (apply c p).given ≡ p.given
-given_kept (Try name priority) p = tried_given (condition (local_of name p.definitions) priority p) name p
-given_kept (SetBound channel true) p = refl
-given_kept (SetBound channel false) p = refl
-given_kept c p = refl
-
-all_given : (cs : List Change) (p : Plain) → (apply_all cs p).given ≡ p.given
-all_given [] p = refl
-all_given (c ∷ cs) p = all_given cs (apply c p) ∙ given_kept c p
-
 pub redone_given : (kept : Bool) (noted : Option Noted) (p : Plain) → (redone_if kept noted p).given ≡ p.given
-redone_given true (Some n) p = all_given n.changes (record p { log = stands_in n.written p.log })
+redone_given true (Some n) p = (changes_untouched n.changes (record p { log = stands_in n.written p.log })).given
 redone_given true None p = refl
 redone_given false noted p = refl
 
@@ -103,7 +87,7 @@ found_told start first bodies next r part left p is forced read bounds h g runni
 
 pub stop_told : (start : Start) (bodies : List (List ℕ)) (p : Plain) → p.running ≡ Up → Tells start bodies p → TellsDown start false 0 None bodies (stop p).next
 stop_told start bodies p up is = subst (λ (r : Running). TellsDown start false 0 None bodies (stop_at r p).next) (sym up)
-    (λ running log moment. ap (λ (g : Given). image g start bodies) (all_given (stop_changes p) p) ∙ is ∙ ap (λ (i : Image). Ok i) (ap (with_incarnation (lasting p)) (none_later p.numbers.incarnation) ∙ ap (later_by 0) (sym (rest_lasts p))))
+    (λ running log moment. ap (λ (g : Given). image g start bodies) (changes_untouched (stop_changes p) p).given ∙ is ∙ ap (λ (i : Image). Ok i) (ap (with_incarnation (lasting p)) (none_later p.numbers.incarnation) ∙ ap (later_by 0) (sym (rest_lasts p))))
 
 -- ---- Started records
 

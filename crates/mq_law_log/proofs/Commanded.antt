@@ -43,7 +43,8 @@ use Rattle.mq_spec_log.specs.Applies.{agrees, has_rows_on, same_form, can_replac
 use Rattle.mq_law_manager.specs.Facts.{IsSound}
 use Rattle.mq_law_manager.proofs.Lists.{bool_case}
 use Rattle.mq_law_manager.proofs.Objects.{object_is, found_object, new_space, new_name, all_alike, defined_alike}
-use Rattle.mq_law_manager.proofs.StockCommands.{has_no_rows, used_alike, given_alike, both_true, not_false, no_left}
+use Rattle.mq_law_manager.proofs.StockCommands.{has_no_rows, used_alike, given_alike, both_true}
+use Rattle.mq_law_manager.proofs.Planning.{not_false, no_left}
 use Rattle.mq_law_log.specs.Keeps.{SwitchesAt, has_queue}
 use Rattle.mq_law_log.specs.Restarts.{StepHarmless}
 use Rattle.mq_law_log.proofs.Shelves.{shelf_found}

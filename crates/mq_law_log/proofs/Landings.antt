@@ -228,7 +228,7 @@ land_steady l Absent p h = undoubted_steady (is_persistent l.message) l.message.
 land_steady l (InDoubtAt from) p h = (tt, undoubted_steady (is_persistent l.message) l.message.ident l.queue l.message (apply (Leave (Among from (l.message.ident ∷ []))) p) (has_mapped _ (λ x. refl) l.queue p.queues ∙ h))
 land_steady l Present p h = undoubted_steady (is_persistent l.message) l.message.ident l.queue l.message p h
 
-abbrev LandedSteady : Result Landed Reason → Plain → Type 0
+abbrev pub LandedSteady : Result Landed Reason → Plain → Type 0
 LandedSteady (Err reason) p = Unit {0}
 LandedSteady (Ok r) p = AllSteady r.changes p
 
@@ -244,7 +244,7 @@ by_steady channel m ms p (Ok l) w h e rest =
     let q : Plain = apply_all (land_changes l st) p in
     before_steady m l st p (landed channel ms q) (land_steady l st p (h.stocked.placed l.queue (is_landing channel m p l w).1.0)) (rest q (next_sound channel m p l h e w))
 
-landed_steady : (channel : List ℕ) (ms : List Message) (p : Plain) → IsSound p → LandedSteady (landed channel ms p) p
+pub landed_steady : (channel : List ℕ) (ms : List Message) (p : Plain) → IsSound p → LandedSteady (landed channel ms p) p
 landed_steady channel [] p h = tt
 landed_steady channel (m ∷ ms) p h = at (is_present (standing_at m p)) refl (λ q k. landed_steady channel ms q k)
   where

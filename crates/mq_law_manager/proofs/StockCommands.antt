@@ -9,25 +9,18 @@ use Rattle.mq_objects.specs.declared.object.LocalQueue.{LocalQueue}
 use Rattle.mq_objects.specs.declared.object.Object.{Object}
 use Rattle.mq_objects.specs.declared.object.Object.TheVariants as objects
 use Rattle.mq_objects.specs.declared.object.Definitions.{Definitions}
-use Rattle.mq_objects.specs.declared.setting.Keyword.{Keyword}
 use Rattle.mq_objects.specs.declared.command.Subject.{Subject}
 use Rattle.mq_objects.specs.declared.command.Subject.TheVariants as subjects
 use Rattle.mq_objects.specs.declared.command.Command.{Command}
-use Rattle.mq_objects.specs.declared.command.Command.TheVariants as commands
-use Rattle.mq_objects.specs.declared.command.Define.{Define}
-use Rattle.mq_objects.specs.declared.command.Alter.{Alter}
-use Rattle.mq_objects.specs.declared.command.Delete.{Delete}
 use Rattle.mq_objects.specs.declared.change.ObjectChange.{ObjectChange}
 use Rattle.mq_objects.specs.declared.change.ObjectChange.TheVariants as changes
 use Rattle.mq_objects.specs.Names.{Space, Queues, same_space, space_of, name_of, as_local, local_of, named, object_in, is_object, is_kind, subject_space, subject_name, is_transmission, is_by_priority}
 use Rattle.mq_objects.specs.Changed.{set_in}
 use Rattle.mq_objects.specs.Defaults.{new_object}
-use Rattle.mq_objects.specs.Settings.{set_all, set_all_manager}
 use Rattle.mq_resolve.specs.declared.route.PathStep.{PathStep}
 use Rattle.mq_resolve.specs.declared.route.PathStep.TheVariants as steps
 use Rattle.mq_calls.specs.declared.commands.ScRefusal.{ScRefusal}
 use Rattle.mq_calls.specs.declared.commands.ScRefusal.TheVariants as refusals
-use Rattle.mq_calls.specs.declared.commands.Shown.{Shown}
 use Rattle.mq_calls.specs.declared.records.Add.{Add}
 use Rattle.mq_calls.specs.declared.records.LogRecord.TheVariants as records
 use Rattle.mq_calls.specs.declared.state.Item.{Item}
@@ -35,9 +28,8 @@ use Rattle.mq_calls.specs.declared.state.Item.TheVariants.{Put, Take}
 use Rattle.mq_sc_apply.specs.declared.answers.Planned.{Planned}
 use Rattle.mq_sc_apply.specs.declared.answers.Plan.{Plan}
 use Rattle.mq_sc_apply.specs.declared.answers.Plan.TheVariants as plans
-use Rattle.mq_sc_apply.specs.Commands.{plan, to_change, to_show}
-use Rattle.mq_sc_apply.specs.Displayed.{display}
-use Rattle.mq_sc_apply.specs.Planned.{define, define_at, defined_object, changed, is_used, same_usage, same_delivery, leads_elsewhere, changes_rows, is_filled, alter, alter_at, alter_good, bad_in, switches_on, alter_manager, default_changes, delete, delete_at, is_on_path, is_sent_from, is_busy}
+use Rattle.mq_sc_apply.specs.Commands.{plan}
+use Rattle.mq_sc_apply.specs.Planned.{same_usage, same_delivery, leads_elsewhere, changes_rows, is_filled, is_on_path}
 use Rattle.mq_message.specs.declared.message.Message.{Message}
 use Rattle.mq_message.specs.declared.place.Holder.TheVariants as holders
 use Rattle.mq_queue.specs.declared.row.Row.{Row}
@@ -64,7 +56,8 @@ use Rattle.mq_law_manager.proofs.Routes.{routed_on, map_mem}
 use Rattle.mq_law_manager.proofs.Shelves.{stays, all_stay, has_set, emptied}
 use Rattle.mq_law_manager.proofs.Units.{behind}
 use Rattle.mq_law_manager.proofs.Stocks.{tested_on}
-use Rattle.mq_law_manager.proofs.Objects.{all_alike, defined_alike, new_space, new_name, kind_local, found_object, object_is, set_found, delete_found, once_set, once_delete}
+use Rattle.mq_law_manager.proofs.Objects.{kind_local, found_object, object_is, set_found, delete_found, once_set, once_delete}
+use Rattle.mq_law_manager.proofs.Planning.{EachChange, PlanHas, no_left, no_right, object_or, plan_has}
 use Rattle.mq_law_manager.proofs.Commanding.{object_name}
 
 -- What a change of objects keeps to: one that sets an object finds none of its name or one that is a local queue where it is,
@@ -91,87 +84,23 @@ Fits (changes.Set new) reroutes p = IsSet new reroutes p
 Fits (changes.SetManager m) reroutes p = Unit {0}
 Fits (changes.Delete s) reroutes p = IsDeleted s p
 
-abbrev pub PlanFits : Plain → Result Planned ScRefusal → Type 0
-PlanFits p (Ok planned) = Fits planned.change planned.reroutes p
-PlanFits p (Err refusal) = Unit {0}
-
-row_fits : (p : Plain) (b : Bool) (e : ScRefusal) (rest : Result Planned ScRefusal) → (b ≡ false → PlanFits p rest) → PlanFits p (if b then Err e else rest)
-row_fits p b e rest k = bool_case b (λ t. b ≡ t → PlanFits p (if t then Err e else rest)) (λ z w. tt) (λ z w. k w) refl
-
-abbrev IsSame : Object → Object → Plain → Type 0
-IsSame new old p = (x : Object) → object_in (space_of new) (name_of new) p.definitions.objects ≡ Some x → (is_local new ≡ is_local x) × (old ≡ x)
-
-changed_fits : (p : Plain) (force : Bool) (old new : Object) (on : Bool) → IsSame new old p → PlanFits p (changed force old new on (uses_of p))
-changed_fits p force old new on h = row_fits p (is_used force old new (uses_of p)) refusals.InUse _ (λ e. row_fits p (changes_rows old new && is_filled old (uses_of p)) refusals.NotEmpty _ (λ w x f.
-    let is = h x f in
-    subst (λ (o : Object). IsOver o new (leads_elsewhere old new) p) is.1 (record { kind = is.0 ∙ ap is_local (sym is.1); filled = w; leads = refl })))
-
-abbrev object_or : Object → Option Object → Object
-object_or d None = d
-object_or d (Some x) = x
-
-pub no_left : (a b : Bool) → (a || b) ≡ false → b ≡ false
-no_left true b e = absurd cc
-no_left false b e = e
-
-pub not_false : (b : Bool) → not b ≡ false → b ≡ true
-not_false true e = refl
-not_false false e = absurd cc
-
--- an object that a command sets, found by the subject that the command names
-set_as : (s : Subject) (new : Object) (o : Option Object) (p : Plain) (P : Object → Type 0) → space_of new ≡ subject_space s → name_of new ≡ subject_name s → named s p.definitions ≡ o → ((old : Object) → o ≡ Some old → P old)
-    → (old : Object) → object_in (space_of new) (name_of new) p.definitions.objects ≡ Some old → P old
-set_as s new o p P space name e h old f = h old (sym e ∙ ap (λ (x : Space). object_in x (subject_name s) p.definitions.objects) (sym space) ∙ ap (λ (n : List ℕ). object_in (space_of new) n p.definitions.objects) (sym name) ∙ f)
-
-define_fits : (p : Plain) (d : Define) (o : Option Object) → named d.subject p.definitions ≡ o → PlanFits p (define_at d (defined_object d.subject d.settings) o (uses_of p))
-define_fits p d None e =
-    let a = defined_alike d.subject d.settings in
-    set_as d.subject (defined_object d.subject d.settings) None p (λ x. IsOver x (defined_object d.subject d.settings) false p) (a.space ∙ new_space d.subject) (a.name ∙ new_name d.subject) e (λ old f. absurd cc)
-define_fits p d (Some old) e =
-    let a = defined_alike d.subject d.settings in
-    row_fits p (not d.replace || not (is_kind d.subject old)) refusals.Exists _ (λ k.
-    changed_fits p false old (defined_object d.subject d.settings) false (set_as d.subject (defined_object d.subject d.settings) (Some old) p (λ x. (is_local (defined_object d.subject d.settings) ≡ is_local x) × (old ≡ x)) (a.space ∙ new_space d.subject) (a.name ∙ new_name d.subject) e
-    (λ x f. (a.local ∙ kind_local d.subject old (not_false (is_kind d.subject old) (no_left (not d.replace) (not (is_kind d.subject old)) k)) ∙ ap is_local (ap (object_or old) f), ap (object_or old) f))))
-
-good_fits : (p : Plain) (a : Alter) (old : Object) (o : Option Keyword) → named a.subject p.definitions ≡ Some old → PlanFits p (alter_good o a old (uses_of p))
-good_fits p a old (Some keyword) e = tt
-good_fits p a old None e =
-    let k = all_alike a.settings old in
-    let is = object_is (subject_space a.subject) (subject_name a.subject) old (found_object (subject_space a.subject) (subject_name a.subject) p.definitions.objects old e) in
-    changed_fits p a.force old (set_all a.settings old) (switches_on old a.settings) (set_as a.subject (set_all a.settings old) (Some old) p (λ x. (is_local (set_all a.settings old) ≡ is_local x) × (old ≡ x)) (k.space ∙ sym is.0) (k.name ∙ sym is.1) e (λ x f. (k.local ∙ ap is_local (ap (object_or old) f), ap (object_or old) f)))
-
-alter_fits : (p : Plain) (a : Alter) (o : Option Object) → named a.subject p.definitions ≡ o → PlanFits p (alter_at a o (uses_of p))
-alter_fits p a None e = tt
-alter_fits p a (Some old) e = row_fits p (not (is_kind a.subject old)) refusals.Missing (alter_good (bad_in old a.settings) a old (uses_of p)) (λ k. good_fits p a old (bad_in old a.settings) e)
-
-no_either : (a b c : Bool) → (a || b || c) ≡ false → a ≡ false
-no_either false b c e = refl
-no_either true b c e = absurd cc
-
-delete_fits : (p : Plain) (d : Delete) (o : Option Object) → named d.subject p.definitions ≡ o → PlanFits p (delete_at d o (uses_of p))
-delete_fits p d None e = tt
-delete_fits p d (Some old) e = row_fits p (not (is_kind d.subject old)) refusals.Missing _ (λ k. row_fits p (is_on_path old (uses_of p) || is_sent_from old (uses_of p) || is_busy old (uses_of p)) refusals.InUse _
-    (λ n. row_fits p (is_filled old (uses_of p)) refusals.NotEmpty _ (λ f. record { old = old; found = e; kind = not_false (is_kind d.subject old) k; filled = f; path = no_either (is_on_path old (uses_of p)) (is_sent_from old (uses_of p)) (is_busy old (uses_of p)) n })))
+-- of each change that a command plans
+abbrev FitsSo : Plain → ObjectChange → Bool → Bool → Type 0
+FitsSo p change reroutes on = Fits change reroutes p
 
 abbrev AllFit : Plain → Result Plan ScRefusal → Type 0
-AllFit p (Ok (plans.Change planned)) = Fits planned.change planned.reroutes p
-AllFit p (Ok (plans.Show shown)) = Unit {0}
-AllFit p (Err refusal) = Unit {0}
+AllFit p r = PlanHas (FitsSo p) r
 
-to_fit : (p : Plain) (r : Result Planned ScRefusal) → PlanFits p r → AllFit p (to_change r)
-to_fit p (Ok planned) h = h
-to_fit p (Err refusal) h = tt
-
-to_shown : (p : Plain) (r : Result Shown ScRefusal) → AllFit p (to_show r)
-to_shown p (Ok shown) = tt
-to_shown p (Err refusal) = tt
+each_fits : (p : Plain) → EachChange (FitsSo p) p.definitions (uses_of p)
+each_fits p = record {
+  fresh = λ new none old f. absurd (cc (none, f));
+  over = λ old new on h x f. subst (λ (o : Object). IsOver o new (leads_elsewhere old new) p) (ap (object_or old) (sym h.found ∙ f)) (record { kind = h.kind; filled = h.filled; leads = refl });
+  manager = λ m reroutes. tt;
+  gone = λ s old h. record { old = old; found = h.found; kind = h.kind; filled = h.filled; path = h.path };
+}
 
 plan_fits : (c : Command) (p : Plain) → AllFit p (plan c p.given.name p.definitions (uses_of p))
-plan_fits (commands.Define d) p = to_fit p (define d p.definitions (uses_of p)) (define_fits p d (named d.subject p.definitions) refl)
-plan_fits (commands.Alter a) p = to_fit p (alter a p.definitions (uses_of p)) (alter_fits p a (named a.subject p.definitions) refl)
-plan_fits (commands.AlterManager a) p = to_fit p (alter_manager a p.definitions (uses_of p)) (row_fits p (not a.force && default_changes p.definitions.manager (set_all_manager a.settings p.definitions.manager) && (uses_of p).defxmitq_on_path) refusals.InUse _ (λ e. tt))
-plan_fits (commands.Delete d) p = to_fit p (delete d p.definitions (uses_of p)) (delete_fits p d (named d.subject p.definitions) refl)
-plan_fits (commands.Display d) p = to_shown p (display d p.given.name p.definitions (uses_of p))
+plan_fits c p = plan_has (FitsSo p) c p.given.name p.definitions (uses_of p) (each_fits p)
 
 -- An object is set
 
@@ -449,12 +378,7 @@ puts_gone p name h = at h.old h.found h.kind h.filled
 -- no handle's path has it
 none_any : {A : Type 0} (f : A → Bool) (xs : List A) → list_any f xs ≡ false → (x : A) → Mem x xs → f x ≡ false
 none_any f [] e x m = absurd m
-none_any f (y ∷ ys) e x (inl is) = ap f is ∙ no_either (f y) (list_any f ys) false (right_unit (f y) (list_any f ys) e)
-  where
-    right_unit : (a b : Bool) → (a || b) ≡ false → (a || b || false) ≡ false
-    right_unit true b e = absurd cc
-    right_unit false false e = refl
-    right_unit false true e = absurd cc
+none_any f (y ∷ ys) e x (inl is) = ap f is ∙ no_right (f y) (list_any f ys) e
 none_any f (y ∷ ys) e x (inr m) = none_any f ys (no_left (f y) (list_any f ys) e) x m
 
 no_handle : (f : Handle → Bool) (cs : List Connection) → any_handle f cs ≡ false → (c : Connection) (h : Handle) → Mem c cs → Mem h c.handles → f h ≡ true → ⊥

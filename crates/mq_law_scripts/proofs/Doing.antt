@@ -2,7 +2,6 @@
 use Rattle.std.specs.Prelude.{◌≡◌, ℕ, zero, suc, ◌==◌, Bool, true, false, not, List, [], ◌∷◌, ◌++◌, Option, Some, None, length, drop, take, filter, if◌then◌else◌, slice_get, refl}
 use Rattle.std.proofs.Common.{ap, subst, sym, arith, append-nil, ◌∙◌}
 use Rattle.std.proofs.lemmas.Bool.Decides.{nat_tests}
-use Rattle.std.proofs.lemmas.List.Elements.{filter-append}
 use Rattle.mq_history.specs.declared.calls.Actor.{Actor}
 use Rattle.mq_history.specs.declared.calls.Actor.TheVariants as actors
 use Rattle.mq_history.specs.declared.calls.Call.{Call}
@@ -10,12 +9,12 @@ use Rattle.mq_history.specs.declared.calls.Call.TheVariants as calls
 use Rattle.mq_history.specs.declared.calls.Entry.{Entry}
 use Rattle.mq_history.specs.declared.scenario.ScriptPart.{ScriptPart}
 use Rattle.mq_history.specs.declared.scripts.ScriptLine.{ScriptLine}
-use Rattle.mq_history.specs.declared.scripts.ScriptLine.TheVariants as lines
-use Rattle.mq_spec_node.specs.Doers.{is_trigger, is_script, mains}
+use Rattle.mq_spec_node.specs.Doers.{is_trigger, is_script}
 use Rattle.mq_spec_node.specs.Scripts.{AreLines, IsDeadline, Memory, fresh, line_call, remembers, until_of, wait_of}
 use Rattle.mq_spec_node.specs.Lines.{lines_by, memory_after, memory_by}
 use Rattle.mq_spec_network.specs.Turns.{Network, does}
 use Rattle.mq_spec_network.specs.ScriptLines.{lines_left}
+use Rattle.mq_spec_network.proofs.NextLines.{by_more, plain_call}
 use Rattle.mq_law_scripts.specs.Fits.{AllLines, IsDone, NoScript}
 
 pub bool_case : (P : Bool → Type 0) → P true → P false → (b : Bool) → P b
@@ -26,11 +25,6 @@ itself k = grind (arith, nat_tests)
 
 same_number : (k j : ℕ) → (k == j) ≡ true → k ≡ j
 same_number k j e = grind (arith, nat_tests)
-
--- whose lines: of more entries, of one
-by_more : (k : ℕ) (xs ys : List Entry) → lines_by k (xs ++ ys) ≡ lines_by k xs ++ lines_by k ys
-by_more k xs ys =
-    ap (λ (zs : List Entry). filter (λ (x : Entry). is_script k x.actor) zs) (filter-append (λ (x : Entry). not (is_trigger x.call)) xs ys) ∙ filter-append (λ (x : Entry). is_script k x.actor) (mains xs) (mains ys)
 
 abbrev pub OfNone : Entry → Type 0
 OfNone e = (k : ℕ) → lines_by k (e ∷ []) ≡ []
@@ -56,23 +50,6 @@ none_more w m e none k n = bool_case
 
 pub none_all : (w : Network) (m : ℕ) (e : Entry) → OfNone e → AllLines w → AllLines (does m (e ∷ []) w)
 none_all w m e none h k p part = subst (AreLines p.label fresh p.lines) (sym (none_more w m e none k p.manager)) (h k p part)
-
--- A line's call is no trigger turn.
-plain_call : (label : List ℕ) (m : Memory) (until : Option ℕ) (l : ScriptLine) → is_trigger (line_call label m until l) ≡ false
-plain_call label m until (lines.Mqconn name) = refl
-plain_call label m until lines.Mqdisc = refl
-plain_call label m until lines.Mqcmit = refl
-plain_call label m until lines.Mqback = refl
-plain_call label m until (lines.Mqopen handle name qmgr how) = refl
-plain_call label m until (lines.Mqclose handle) = refl
-plain_call label m until (lines.Mqput handle body o) = refl
-plain_call label m until (lines.Mqput1 name qmgr body o) = refl
-plain_call label m until (lines.Reply body o) = refl
-plain_call label m until (lines.Mqget handle o) = refl
-plain_call label m until (lines.Mqsc command) = refl
-plain_call label m until lines.Crash = refl
-plain_call label m until lines.Restart = refl
-plain_call label m until (lines.Cut k) = refl
 
 -- Of an entry that is a script's next line: its own is one more,
 line_own : (w : Network) (k : ℕ) (p : ScriptPart) (m : ℕ) (e : Entry) → IsDone w k p m e → lines_by k (e ∷ []) ≡ e ∷ []

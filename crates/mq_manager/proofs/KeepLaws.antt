@@ -1,13 +1,12 @@
 -- Any call, however it ends, keeps what its manager's log tells: while it is up what lasts of it, behind a stopped write what a
 -- restart asks.
-use Rattle.std.proofs.Common.{◌≡◌, ℕ, zero, suc, ◌<◌, Bool, true, false, List, [], ◌∷◌, ◌++◌, length, refl, ap, arith, sym, subst, ◌∙◌}
+use Rattle.std.proofs.Common.{◌≡◌, ℕ, zero, suc, ◌<◌, true, false, List, [], ◌∷◌, ◌++◌, length, refl, ap, arith, sym, subst, ◌∙◌}
 use Rattle.std.specs.Prelude.{Option, Some, None, Result, Ok, Err, is_some}
 use Rattle.std.specs.List.{AllByRecursion}
 use Rattle.mq_calls.specs.declared.commands.Halt.TheVariants as halts
 use Rattle.mq_calls.specs.State.{Given, Running, LogState as PlainLog}
 use Rattle.mq_calls.specs.State.Running.{Up, Down}
-use Rattle.mq_calls.specs.State.Change.{Try, SetBound}
-use Rattle.mq_calls.specs.Words.{Plain, Part, Step, Change, Refuse, Do, ManagerValue, Wants, MeetsAs, MeetsDone, IsWrite, apply, apply_all, logged, do_part, do_all, stopped_at, freeze, note_of, try_if, condition, local_of, is_up}
+use Rattle.mq_calls.specs.Words.{Plain, Part, Step, Refuse, Do, ManagerValue, Wants, MeetsAs, MeetsDone, IsWrite, logged, do_part, do_all, stopped_at, freeze, note_of, is_up}
 use Rattle.mq_calls.specs.declared.records.LogRecord.{LogRecord}
 use Rattle.mq_calls.specs.declared.commands.Halt.{Halt}
 use Rattle.mq_calls.specs.Meeting.Wants.{Nowhere, Behind, Anywhere}
@@ -18,6 +17,7 @@ use Rattle.mq_spec_log.specs.Bodies.{image}
 use Rattle.mq_law_log.specs.Keeps.{Keeps}
 use Rattle.mq_law_log.specs.Restarts.{AllHarmless, StepHarmless, IsHarmless, IsGivenIn}
 use Rattle.mq_law_manager.specs.Facts.{IsSound}
+use Rattle.mq_law_manager.proofs.Untouched.{changes_untouched, part_given, parts_running}
 use Rattle.mq_law_image.specs.Values.{AreObjectTexts, IsMade, StepMakes}
 use Rattle.mq_law_image.proofs.Made.{part_texts}
 use Rattle.mq_core.specs.Values.{CoreValue, LogBodies, WritesLog, manager_of, behind_record, pending_record, wrote_all, broke_at}
@@ -29,48 +29,11 @@ use Rattle.mq_manager.specs.Facts.{IsWell}
 use Rattle.mq_manager.specs.Reads.{AllCanBeRead, StepCanBeRead}
 use Rattle.mq_manager.specs.Kept.{HasLog}
 use Rattle.mq_manager.proofs.BackLaws.{IsBack, BackIn, AllBack, BackTo, all_back, back_to, made_in}
-use Rattle.mq_manager.proofs.TellLaws.{given_part, silent_tells, forced_tells}
+use Rattle.mq_manager.proofs.TellLaws.{silent_tells, forced_tells}
 use Rattle.mq_manager.proofs.WellLaws.{Idles}
 
--- no change touches the log, or takes a manager down
-log_if : (b : Bool) (name : List ℕ) (p : Plain) → (try_if b name p).log ≡ p.log
-log_if true name p = refl
-log_if false name p = refl
-
-log_one : (c : Change) (p : Plain) → (apply c p).log ≡ p.log
-log_one (Try name priority) p = log_if (condition (local_of name p.definitions) priority p) name p
-log_one (SetBound channel true) p = refl
-log_one (SetBound channel false) p = refl
-log_one c p = refl
-
-log_changes : (cs : List Change) (p : Plain) → (apply_all cs p).log ≡ p.log
-log_changes [] p = refl
-log_changes (c ∷ cs) p = log_changes cs (apply c p) ∙ log_one c p
-
-runs_if : (b : Bool) (name : List ℕ) (p : Plain) → (try_if b name p).running ≡ p.running
-runs_if true name p = refl
-runs_if false name p = refl
-
-runs_one : (c : Change) (p : Plain) → (apply c p).running ≡ p.running
-runs_one (Try name priority) p = runs_if (condition (local_of name p.definitions) priority p) name p
-runs_one (SetBound channel true) p = refl
-runs_one (SetBound channel false) p = refl
-runs_one c p = refl
-
-runs_changes : (cs : List Change) (p : Plain) → (apply_all cs p).running ≡ p.running
-runs_changes [] p = refl
-runs_changes (c ∷ cs) p = runs_changes cs (apply c p) ∙ runs_one c p
-
-runs_logged : (o : Option LogRecord) (p : Plain) → (logged o p).running ≡ p.running
-runs_logged None p = refl
-runs_logged (Some r) p = refl
-
-runs_all : (parts : List Part) (p : Plain) → (do_all parts p).running ≡ p.running
-runs_all [] p = refl
-runs_all (part ∷ parts) p = runs_all parts (do_part part p) ∙ runs_changes part.changes (logged part.forced p) ∙ runs_logged part.forced p
-
 long_part : (part : Part) (o : Option LogRecord) (p : Plain) → part.forced ≡ o → (do_part part p).log.length ≡ (logged o p).log.length
-long_part part o p e = ap (λ (l : PlainLog). l.length) (log_changes part.changes (logged part.forced p)) ∙ ap (λ (f : Option LogRecord). (logged f p).log.length) e
+long_part part o p e = ap (λ (l : PlainLog). l.length) (changes_untouched part.changes (logged part.forced p)).log ∙ ap (λ (f : Option LogRecord). (logged f p).log.length) e
 
 abbrev log_of : List ℕ → List (List ℕ) → LogBodies
 log_of first bodies = record { bodies = first ∷ bodies; pending = None }
@@ -89,7 +52,7 @@ forced_stands : (first : List ℕ) (bodies : List (List ℕ)) (r : LogRecord) (p
 forced_stands first bodies r part p s e b h g = record {
   settled = refl;
   some = omega arith;
-  tells = ap (λ (x : Given). image x Later (first ∷ (bodies ++ record_bytes r ∷ []))) (given_part part p) ∙ forced_tells first bodies r part p s.tells e (b.read, b.bounds) h g;
+  tells = ap (λ (x : Given). image x Later (first ∷ (bodies ++ record_bytes r ∷ []))) (part_given part p) ∙ forced_tells first bodies r part p s.tells e (b.read, b.bounds) h g;
   long =
       let a = long_part part (Some r) p e in
       let l = s.long in
@@ -207,7 +170,7 @@ done_keeps tells read wants v new reply parts (Ok value) m w up h a k =
     (at_up tells read v.log v.plain up h.stands) in
     subst (λ (p : Plain). HasLog tells read new.log p) (sym plain)
     (subst (λ (l : LogBodies). HasLog tells read l (do_all parts v.plain)) (sym w.0)
-    (record { texts = texts_all parts v.plain a (all_made parts k) h.texts; stands = subst (λ (r : Running). LogStandsAt tells read r (wrote_all parts v.log) (do_all parts v.plain)) (sym (runs_all parts v.plain ∙ up)) stands }))
+    (record { texts = texts_all parts v.plain a (all_made parts k) h.texts; stands = subst (λ (r : Running). LogStandsAt tells read r (wrote_all parts v.log) (do_all parts v.plain)) (sym (parts_running parts v.plain ∙ up)) stands }))
 done_keeps tells read wants v new reply parts (Err (halts.Refused reason)) m w up h a k = absurd m
 done_keeps tells read Nowhere v new reply parts (Err halts.NoMemory) m w up h a k = absurd m
 done_keeps tells read Behind v new reply parts (Err halts.NoMemory) m w up h a k = same_log tells read v new (plain_is m) w h

@@ -1,11 +1,10 @@
 -- What a call leaves of what its manager's log tells: from the image of the bodies in front of the call to those behind it, and
 -- where a write was stopped to the image with and without its pending body.
-use Rattle.std.proofs.Common.{◌≡◌, ℕ, zero, suc, Bool, true, false, List, [], ◌∷◌, ◌++◌, refl, ap, arith, sym, subst, ◌∙◌}
+use Rattle.std.proofs.Common.{◌≡◌, ℕ, zero, suc, true, List, [], ◌∷◌, ◌++◌, refl, ap, arith, sym, subst, ◌∙◌}
 use Rattle.std.specs.Prelude.{Option, Some, None, Result, Ok, Err, is_some}
 use Rattle.mq_calls.specs.declared.commands.Halt.TheVariants as halts
 use Rattle.mq_calls.specs.State.{Given}
-use Rattle.mq_calls.specs.State.Change.{Try, SetBound}
-use Rattle.mq_calls.specs.Words.{Plain, Part, Step, Change, Noted, Refuse, Do, ManagerValue, Wants, MeetsAs, MeetsDone, IsWrite, apply, apply_all, logged, do_part, do_all, stopped_at, freeze, note_of, try_if, condition, local_of, lasting, raised}
+use Rattle.mq_calls.specs.Words.{Plain, Part, Step, Noted, Refuse, Do, ManagerValue, Wants, MeetsAs, MeetsDone, IsWrite, do_part, do_all, stopped_at, freeze, note_of, lasting, raised}
 use Rattle.mq_calls.specs.declared.records.LogRecord.{LogRecord}
 use Rattle.mq_calls.specs.declared.commands.Halt.{Halt}
 use Rattle.mq_calls.specs.declared.image.Image.{Image}
@@ -21,34 +20,13 @@ use Rattle.mq_law_log.proofs.Stops.{frozen_lasts, restart_recovers}
 use Rattle.mq_core.specs.Values.{CoreValue, LogBodies, WritesLog, manager_of, behind_record, pending_record, wrote_all, broke_at}
 use Rattle.mq_manager.specs.Tells.{Tells, IsRead, AreRead, StepRead, TellsBroken, TellsAfter}
 use Rattle.mq_calls.specs.Meeting.Wants.{Nowhere, Behind, Anywhere}
-
--- no change gives a manager another number, name or length of log
-given_if : (b : Bool) (name : List ℕ) (p : Plain) → (try_if b name p).given ≡ p.given
-given_if true name p = refl
-given_if false name p = refl
-
-given_one : (c : Change) (p : Plain) → (apply c p).given ≡ p.given
-given_one (Try name priority) p = given_if (condition (local_of name p.definitions) priority p) name p
-given_one (SetBound channel true) p = refl
-given_one (SetBound channel false) p = refl
-given_one c p = refl
-
-given_all : (cs : List Change) (p : Plain) → (apply_all cs p).given ≡ p.given
-given_all [] p = refl
-given_all (c ∷ cs) p = given_all cs (apply c p) ∙ given_one c p
-
-given_logged : (o : Option LogRecord) (p : Plain) → (logged o p).given ≡ p.given
-given_logged None p = refl
-given_logged (Some r) p = refl
-
-pub given_part : (part : Part) (p : Plain) → (do_part part p).given ≡ p.given
-given_part part p = given_all part.changes (logged part.forced p) ∙ given_logged part.forced p
+use Rattle.mq_law_manager.proofs.Untouched.{part_given}
 
 -- a part that writes nothing, and one that does
 pub silent_tells : (first : List ℕ) (bodies : List (List ℕ)) (part : Part) (p : Plain) → Tells (first ∷ bodies) p → part.forced ≡ None → Keeps part p → Tells (first ∷ bodies) (do_part part p)
 silent_tells first bodies part p is none k =
     let same : lasting (do_part part p) ≡ lasting p = subst (λ (o : Option LogRecord). Told o p (lasting (do_part part p))) none k in
-    ap (λ (g : Given). image g Later (first ∷ bodies)) (given_part part p) ∙ is ∙ ap (λ (i : Image). Ok i) (sym same)
+    ap (λ (g : Given). image g Later (first ∷ bodies)) (part_given part p) ∙ is ∙ ap (λ (i : Image). Ok i) (sym same)
 
 pub forced_tells : (first : List ℕ) (bodies : List (List ℕ)) (r : LogRecord) (part : Part) (p : Plain) → Tells (first ∷ bodies) p → part.forced ≡ Some r → IsRead (Some r) → IsHarmless part p → IsGivenIn part.forced p
     → image p.given Later (first ∷ (bodies ++ record_bytes r ∷ [])) ≡ Ok (lasting (do_part part p))
@@ -70,7 +48,7 @@ tells_all (part ∷ parts) p first bodies pending is h read = by (λ bs t. tells
         (again bodies (silent_tells first bodies part p is e h.0.keeps))
     by again (Some x) e r =
         subst (λ (o : Option LogRecord). Tells (wrote_all parts (behind_record o (log_of first bodies pending))).bodies (do_all parts (do_part part p))) (sym e)
-        (again (bodies ++ record_bytes x ∷ []) (ap (λ (g : Given). image g Later (first ∷ (bodies ++ record_bytes x ∷ []))) (given_part part p) ∙ forced_tells first bodies x part p is e r h.0 h.1))
+        (again (bodies ++ record_bytes x ∷ []) (ap (λ (g : Given). image g Later (first ∷ (bodies ++ record_bytes x ∷ []))) (part_given part p) ∙ forced_tells first bodies x part p is e r h.0 h.1))
 
 -- what a restart redoes of a stopped write is what its part does
 raised_same : (a b : Image) → raised 0 a ≡ raised 0 b → a ≡ b
@@ -108,7 +86,7 @@ tells_broken (suc n) (part ∷ parts) left p first bodies pending w is h read = 
         (again bodies (silent_tells first bodies part p is e h.0.keeps))
     by again (Some x) e r =
         subst (λ (o : Option LogRecord). TellsBroken (note_at n parts) (broke_at n parts (behind_record o (log_of first bodies pending))) (stopped_at n parts left (do_part part p))) (sym e)
-        (again (bodies ++ record_bytes x ∷ []) (ap (λ (g : Given). image g Later (first ∷ (bodies ++ record_bytes x ∷ []))) (given_part part p) ∙ forced_tells first bodies x part p is e r h.0 h.1))
+        (again (bodies ++ record_bytes x ∷ []) (ap (λ (g : Given). image g Later (first ∷ (bodies ++ record_bytes x ∷ []))) (part_given part p) ∙ forced_tells first bodies x part p is e r h.0 h.1))
 
 -- Any call, however it ends.
 kept_tells : (v new : CoreValue) → new.plain ≡ v.plain → new.log ≡ v.log → Tells v.log.bodies v.plain → Tells new.log.bodies new.plain

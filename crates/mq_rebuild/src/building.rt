@@ -54,7 +54,10 @@ fn defs_with_queues(
     };
     match queues_of(alloc, &defs, shelves) {
         Ok(queues) => Ok((defs, queues)),
-        Err(NoMemory) => Err(NoMemory),
+        Err(NoMemory) => {
+            drop(defs);
+            Err(NoMemory)
+        }
     }
 }
 
@@ -98,6 +101,10 @@ pub fn build(alloc: Global, image: Image) -> Result<Built, NoMemory>
                 incarnation,
             })
         }
-        Err(NoMemory) => Err(NoMemory),
+        Err(NoMemory) => {
+            drop(queues);
+            drop(defs);
+            Err(NoMemory)
+        }
     }
 }

@@ -3,7 +3,7 @@ use Rattle.std.proofs.Common.{◌≡◌, ℕ, ◌+◌, ◌-◌, ◌*◌, ◌<◌
 use Rattle.std.specs.Prelude.{Option, Some, None}
 use Rattle.mq_log.specs.State.{LogState, log_length}
 use Rattle.mq_calls.specs.State.{Plain, Noted, Given, Change, LogState as PlainLog}
-use Rattle.mq_calls.specs.State.Change.{Place as Places, Try, Leave, Hold, Release, Connect, Disconnect, OpenHandle, CloseHandle, SetCursor, Pend, EndUnit, MakeStale, CountIdent, ChangeObjects, Renew, DropQueue, SwitchOn, Serve, SetSender, SetReceiver, Undoubt, Seize, Unseize, AddBatch, DropBatch, SetBound, SetMoment, ForgetAll}
+use Rattle.mq_calls.specs.State.Change.{Try, SetBound}
 use Rattle.mq_calls.specs.Changes.{apply, apply_all, try_if}
 use Rattle.mq_calls.specs.Condition.{condition}
 use Rattle.mq_calls.specs.Steps.{stands_in}
@@ -11,6 +11,7 @@ use Rattle.mq_calls.specs.Images.{begun, raised}
 use Rattle.mq_objects.specs.Names.{local_of}
 use Rattle.mq_spec_manager.specs.Stops.{redone_if, restarted, grown, started_need}
 use Rattle.mq_spec_manager.specs.Words.{last_moment}
+use Rattle.mq_law_manager.proofs.Untouched.{changes_untouched}
 use Rattle.mq_spec_log.specs.Applies.Start.{Later}
 use Rattle.mq_law_image.proofs.Telling.{redone_given, begun_restarted}
 use Rattle.mq_rebuild.specs.declared.building.Built.{Built}
@@ -22,45 +23,8 @@ use Rattle.mq_restart.proofs.SeenLaws.{begun_seen}
 use Rattle.mq_restart.proofs.TieLaws.{begun_tied}
 
 -- no change touches the log
-tried : (b : Bool) (name : List ℕ) (p : Plain) → (try_if b name p).log ≡ p.log
-tried true name p = refl
-tried false name p = refl
-
-log_kept : (c : Change) (p : Plain) → (apply c p).log ≡ p.log
-log_kept (Places name message) p = refl
-log_kept (Try name priority) p = tried (condition (local_of name p.definitions) priority p) name p
-log_kept (Leave which) p = refl
-log_kept (Hold which by) p = refl
-log_kept (Release which counted) p = refl
-log_kept (Connect c) p = refl
-log_kept (Disconnect number) p = refl
-log_kept (OpenHandle number h) p = refl
-log_kept (CloseHandle number handle) p = refl
-log_kept (SetCursor number handle place) p = refl
-log_kept (Pend number item) p = refl
-log_kept (EndUnit number) p = refl
-log_kept (MakeStale step) p = refl
-log_kept CountIdent p = refl
-log_kept (ChangeObjects change) p = refl
-log_kept (Renew name) p = refl
-log_kept (DropQueue name) p = refl
-log_kept (SwitchOn name) p = refl
-log_kept (Serve name) p = refl
-log_kept (SetSender channel d) p = refl
-log_kept (SetReceiver channel d) p = refl
-log_kept (Undoubt ident) p = refl
-log_kept (Seize s) p = refl
-log_kept (Unseize channel) p = refl
-log_kept (AddBatch b) p = refl
-log_kept (DropBatch channel) p = refl
-log_kept (SetBound channel true) p = refl
-log_kept (SetBound channel false) p = refl
-log_kept (SetMoment moment) p = refl
-log_kept ForgetAll p = refl
-
 pub logs_kept : (cs : List Change) (p : Plain) → (apply_all cs p).log ≡ p.log
-logs_kept [] p = refl
-logs_kept (c ∷ cs) p = logs_kept cs (apply c p) ∙ log_kept c p
+logs_kept cs p = (changes_untouched cs p).log
 
 redone_armed : (kept : Bool) (noted : Option Noted) (p : Plain) → (redone_if kept noted p).log.armed ≡ p.log.armed
 redone_armed true (Some n) p = ap (λ (l : PlainLog). l.armed) (logs_kept n.changes (record p { log = stands_in n.written p.log }))

@@ -3,11 +3,11 @@ use Rattle.std.proofs.Common.{◌≡◌, ℕ, zero, suc, ◌≤◌, ◌<◌, fal
 use Rattle.std.specs.Prelude.{◌⊎◌, Option, Some, slice_get}
 use Rattle.mq_history.specs.declared.calls.Actor.{Actor}
 use Rattle.mq_history.specs.declared.calls.Actor.TheVariants as actors
-use Rattle.mq_history.specs.declared.scripts.ScriptLine.TheVariants as lines
 use Rattle.mq_spec_node.specs.Terms.{Entry, ScriptLine, ScriptPart}
 use Rattle.mq_spec_node.specs.Words.{Memory, call_after, deadline, is_script, is_trigger, left_after, line_call, wait_of}
 use Rattle.mq_spec_network.specs.Steps.{InPhase, PhaseLine}
 use Rattle.mq_spec_network.specs.Tasks.{Trying}
+use Rattle.mq_spec_network.proofs.NextLines.{plain_call}
 use Rattle.mq_progress.specs.Course.{Course, Finished, Stands}
 use Rattle.mq_progress.proofs.CourseLaws.{stands_further, stands_others}
 use Rattle.mq_acts.specs.Serving.{AreTurns}
@@ -32,23 +32,6 @@ line_in b m done s l e h is actor call =
     let asked : e.call ≡ call_after s.script s.part done (deadline s.moment (wait_of l)) l = call ∙ ap (λ (k : Memory). line_call s.part.label k (deadline s.moment (wait_of l)) l) h.stands.memory in
     subst (λ (a : Actor). InPhase b.tries done m e a) (sym actor)
     (t, h.among, subst (λ (ls : List ScriptLine). PhaseLine s.script t done ls m e) (sym left) (refl, (sym h.here, actor, asked)))
-
--- no line is a trigger turn
-no_trigger : (label : List ℕ) (m : Memory) (until : Option ℕ) (l : ScriptLine) → is_trigger (line_call label m until l) ≡ false
-no_trigger label m until (lines.Mqconn name) = refl
-no_trigger label m until lines.Mqdisc = refl
-no_trigger label m until lines.Mqcmit = refl
-no_trigger label m until lines.Mqback = refl
-no_trigger label m until (lines.Mqopen handle name qmgr how) = refl
-no_trigger label m until (lines.Mqclose handle) = refl
-no_trigger label m until (lines.Mqput handle body o) = refl
-no_trigger label m until (lines.Mqput1 name qmgr body o) = refl
-no_trigger label m until (lines.Reply body o) = refl
-no_trigger label m until (lines.Mqget handle o) = refl
-no_trigger label m until (lines.Mqsc command) = refl
-no_trigger label m until lines.Crash = refl
-no_trigger label m until lines.Restart = refl
-no_trigger label m until (lines.Cut k) = refl
 
 -- HOW IT STANDS behind trigger turns,
 behind_turns : (k : ℕ) (p : ScriptPart) (es behind : List Entry) (c : Course) → AreTurns behind → Stands k p es c → Stands k p (es ++ behind) c
@@ -86,7 +69,7 @@ script_done b m done behind e l s t same is actor call f turns h = with_names (r
     named = λ i. record { script = sym same.script i; part = sym same.part i; moment = sym same.moment i; course = t.course }
 
     further : Stands s.script s.part (done ++ e ∷ []) t.course
-    further = stands_further s.script s.part done e l s.course t.course h.stands is actor (ap is_trigger call ∙ no_trigger s.part.label s.course.memory (deadline s.moment (wait_of l)) l) f
+    further = stands_further s.script s.part done e l s.course t.course h.stands is actor (ap is_trigger call ∙ plain_call s.part.label s.course.memory (deadline s.moment (wait_of l)) l) f
 
     there : IsScriptIn b m (done ++ e ∷ behind) (record { script = s.script; part = s.part; moment = s.moment; course = t.course })
     there = record {

@@ -18,7 +18,7 @@ use Rattle.mq_spec_network.specs.Steps.{AreTriggers, IsNext}
 use Rattle.mq_spec_network.proofs.Going.{here}
 
 -- a line's call is no trigger turn
-plain_call : (label : List ℕ) (m : Memory) (until : Option ℕ) (l : ScriptLine) → is_trigger (line_call label m until l) ≡ false
+pub plain_call : (label : List ℕ) (m : Memory) (until : Option ℕ) (l : ScriptLine) → is_trigger (line_call label m until l) ≡ false
 plain_call label m until (lines.Mqconn name) = refl
 plain_call label m until lines.Mqdisc = refl
 plain_call label m until lines.Mqcmit = refl
@@ -38,7 +38,7 @@ by_none : (k : ℕ) (es : List Entry) → AreTriggers es → lines_by k es ≡ [
 by_none k [] h = refl
 by_none k (e ∷ es) h = ap (λ (c : Call). filter (λ (x : Entry). is_script k x.actor) (if not (is_trigger c) then e ∷ mains es else mains es)) h.0 ∙ by_none k es h.1
 
-by_more : (k : ℕ) (xs ys : List Entry) → lines_by k (xs ++ ys) ≡ lines_by k xs ++ lines_by k ys
+pub by_more : (k : ℕ) (xs ys : List Entry) → lines_by k (xs ++ ys) ≡ lines_by k xs ++ lines_by k ys
 by_more k xs ys =
     ap (λ (zs : List Entry). filter (λ (x : Entry). is_script k x.actor) zs) (filter-append (λ (x : Entry). not (is_trigger x.call)) xs ys) ∙ filter-append (λ (x : Entry). is_script k x.actor) (mains xs) (mains ys)
 

@@ -11,11 +11,10 @@ use Rattle.mq_history.specs.declared.scenario.CableLine.{CableLine}
 use Rattle.mq_history.specs.declared.scenario.Scenario.{Scenario}
 use Rattle.mq_history.specs.declared.scenario.ScriptPart.{ScriptPart}
 use Rattle.mq_history.specs.declared.scripts.ScriptLine.{ScriptLine}
-use Rattle.mq_history.specs.declared.scripts.ScriptLine.TheVariants as lines
 use Rattle.mq_calls.specs.Recovery.{AreKnown, IsImage}
 use Rattle.mq_spec_node.specs.Terms.{Entry}
 use Rattle.mq_spec_node.specs.Replays.{Follows, opening_node}
-use Rattle.mq_spec_node.specs.Words.{IsReplayed, Memory, NodeValue, deadline_kept, is_receiver, is_script, is_sender, is_trigger, line_call, next_if, wait_of}
+use Rattle.mq_spec_node.specs.Words.{IsReplayed, NodeValue, deadline_kept, is_receiver, is_script, is_sender, is_trigger, next_if, wait_of}
 use Rattle.std.proofs.lemmas.Bool.Decides.{nat_tests}
 use Rattle.mq_spec_node.specs.Lines.Next.{Waits}
 use Rattle.mq_spec_network.specs.Steps.{AreTriggers}
@@ -316,23 +315,7 @@ network_line w m k p l c d P n new h known part is here line x actor main f =
         subst (λ (es : List Entry). IsScriptAt j q es y) (sym (entries_set w.scenario w.nodes m n new (x.entry ∷ x.behind) q.manager known x.grows.history))
         (at_more j q y q.manager m before (x.entry ∷ x.behind) (λ e. others_more j q before x.behind x.entry y (ap (is_script j) actor ∙ not_script j k other) x.triggers (h.scripts j q y at found)) (h.scripts j q y at found))
 
--- No line is a trigger turn; and one that waits is a get.
-pub no_trigger : (label : List ℕ) (m : Memory) (until : Option ℕ) (l : ScriptLine) → is_trigger (line_call label m until l) ≡ false
-no_trigger label m until (lines.Mqconn name) = refl
-no_trigger label m until lines.Mqdisc = refl
-no_trigger label m until lines.Mqcmit = refl
-no_trigger label m until lines.Mqback = refl
-no_trigger label m until (lines.Mqopen handle name qmgr how) = refl
-no_trigger label m until (lines.Mqclose handle) = refl
-no_trigger label m until (lines.Mqput handle body o) = refl
-no_trigger label m until (lines.Mqput1 name qmgr body o) = refl
-no_trigger label m until (lines.Reply body o) = refl
-no_trigger label m until (lines.Mqget handle o) = refl
-no_trigger label m until (lines.Mqsc command) = refl
-no_trigger label m until lines.Crash = refl
-no_trigger label m until lines.Restart = refl
-no_trigger label m until (lines.Cut k) = refl
-
+-- A line that waits is a get.
 waits_some : (kept wait : Option ℕ) (b : Bool) (moment until : ℕ) (call : Call) → ((u : ℕ) → kept ≡ Some u → IsSome wait) → next_if b (deadline_kept kept moment wait) call ≡ Waits until → IsSome wait
 waits_some (Some u) wait b moment until call h e = h u refl
 waits_some None (Some x) b moment until call h e = refl

@@ -12,6 +12,7 @@ use Rattle.mq_spec_node.specs.Words.{Next, NodeValue, is_trigger, next_by, waits
 use Rattle.mq_spec_node.specs.Lines.Next.{Waits, Makes}
 use Rattle.mq_spec_network.specs.Story.{entries_at}
 use Rattle.mq_spec_network.specs.Turns.{does, node_at}
+use Rattle.mq_spec_network.proofs.NextLines.{plain_call}
 use Rattle.mq_progress.specs.Course as progress
 use Rattle.mq_progress.specs.Course.{call_in, next_in}
 use Rattle.mq_progress.proofs.CourseLaws.{next_here}
@@ -31,7 +32,7 @@ use Rattle.mq_world.specs.Worlds.{IsNetwork, IsScriptAt, NetState, WaitsSo, cour
 use Rattle.mq_world.proofs.ListLaws.{itself, same_or_not, set_here, set_other}
 use Rattle.mq_world.proofs.NodeLaws.{stays_so}
 use Rattle.mq_world.proofs.SeenLaws.{course_more, course_same, course_waits, node_there}
-use Rattle.mq_world.proofs.KeepLaws.{network_line, network_script, network_stays, no_trigger}
+use Rattle.mq_world.proofs.KeepLaws.{network_line, network_script, network_stays}
 use Rattle.mq_world.proofs.KeepLaws.{waits_then as waits_next}
 use Rattle.mq_world.proofs.LiftLaws.{Asked, asked_at, ready_set, spent_lifts}
 
@@ -129,7 +130,7 @@ line_lifts w m k p c d r n new h after ready known part is here x = told_at w m 
 did_keeps : (w : NetState) (m k : ℕ) (p : ScriptPart) (c d : progress.Course) (n new : NodeState) → IsNetwork w → slice_get w.nodes m ≡ Some n → slice_get w.scenario.scripts k ≡ Some p → slice_get w.scripts k ≡ Some c → p.manager ≡ m → LineDid k p c d n new → IsNetwork (Then w m new k d)
 did_keeps w m k p c d n new h known part is here z =
     network_line w m k p z.line c d (IsLineOf k p z.line c d n) n new h known part is here z.is z.did z.did.fits.0.0
-    (ap is_trigger z.did.fits.0.1 ∙ no_trigger p.label c.memory (progress.until_in c n.manager.plain.moment z.line) z.line) z.did.fits.1
+    (ap is_trigger z.did.fits.0.1 ∙ plain_call p.label c.memory (progress.until_in c n.manager.plain.moment z.line) z.line) z.did.fits.1
 
 none_keeps : (w : NetState) (m k : ℕ) (p : ScriptPart) (c d : progress.Course) (n new : NodeState) → IsNetwork w → slice_get w.nodes m ≡ Some n → slice_get w.scenario.scripts k ≡ Some p → slice_get w.scripts k ≡ Some c → NoLine c d n new → IsNetwork (Then w m new k d)
 none_keeps w m k p c d n new h known part is z =
