@@ -77,8 +77,7 @@ use Rattle.mq_spec_manager.specs.Moves.{bare_if, move_full, move_part, move_reso
 use Rattle.mq_spec_node.specs.Handlers as handlers
 use Rattle.mq_spec_node.specs.Node.{Node, Own, Handler, handler_in}
 use Rattle.mq_spec_node.specs.Deeds.{Deed, told, parts_of, done, mqi_deed, ended_deed}
-use Rattle.mq_spec_node.specs.Happens.{handler_turn, crashed, event, IsEvent, IsReturn, done_or, get_deed, command_deed, where_up, trigger_deed_of, turn_up, timeout_by}
-use Rattle.mq_spec_node.specs.Happens.{restarted as node_restarted}
+use Rattle.mq_spec_node.specs.Happens.{handler_turn, crashed, event, IsEvent, IsReturn, done_or, get_deed, command_deed, where_up, trigger_deed_of, turn_up, timeout_by, restarted as node_restarted}
 use Rattle.mq_spec_node.specs.Status.{show_status, shown, status_line, is_asked}
 use Rattle.mq_spec_node.specs.Replays.{IsOwn}
 use Rattle.mq_spec_network.specs.Order.{unit_received}
@@ -403,88 +402,25 @@ own_quiet n stamp actor (calls.Act (acts.Obey (lines.Operate op))) (chances.Call
 own_quiet n stamp actor (calls.Act (acts.Obey (lines.ShowStatus name any_end))) (chances.Call choice) seen is can own = done_quiet (show_status name any_end n) choice n (status_parts name any_end n)
 own_quiet n stamp actor calls.Trigger (chances.Call choice) seen is can own = due_quiet n.manager.running (first_due (locals_of n.manager.definitions) n.manager) choice n
 own_quiet n stamp actor (calls.Act acts.Crash) chance seen is can own = absurd is
-own_quiet n stamp actor (calls.Act acts.Restart) (chances.Call choice) seen is can own = absurd is
-own_quiet n stamp actor (calls.Act acts.Restart) (chances.Restart choice) seen is can own = absurd is
-own_quiet n stamp actor (calls.Act acts.Restart) (chances.Foreign image length left) seen is can own = absurd is
-own_quiet n stamp actor (calls.Act (acts.Cut k)) chance seen is can own = refl
-own_quiet n stamp actor (calls.Act (acts.Clock by_)) chance seen is can own = refl
+own_quiet n stamp actor (calls.Act acts.Restart) chance seen is can own = absurd is
 own_quiet n stamp (actors.Handler number) calls.Turn (chances.Call choice) seen is can own = up_quiet n.manager.running (turn_up stamp (actors.Handler number) seen n) choice n (handler_quiet (handler_in number n.own.handlers) n)
 own_quiet n stamp (actors.Sender k) calls.Turn (chances.Call choice) seen is can own = absurd is
 own_quiet n stamp (actors.Receiver k) calls.Turn (chances.Call choice) seen is can own = absurd is
-own_quiet n stamp (actors.Script k) calls.Turn (chances.Call choice) seen is can own = up_quiet n.manager.running None choice n tt
-own_quiet n stamp (actors.Monitor k) calls.Turn (chances.Call choice) seen is can own = up_quiet n.manager.running None choice n tt
-own_quiet n stamp actors.Operator calls.Turn (chances.Call choice) seen is can own = up_quiet n.manager.running None choice n tt
-own_quiet n stamp actors.Clock calls.Turn (chances.Call choice) seen is can own = up_quiet n.manager.running None choice n tt
-own_quiet n stamp actor calls.Turn (chances.Restart choice) seen is can own = refl
-own_quiet n stamp actor calls.Turn (chances.Foreign image length left) seen is can own = refl
+own_quiet n stamp actor calls.Turn (chances.Call choice) seen is can own = up_quiet n.manager.running None choice n tt
 own_quiet n stamp actor calls.Timeout chance seen is can own = absurd is
-own_quiet n stamp actor (calls.Mqconn qmgr appl) (chances.Restart choice) seen is can own = refl
-own_quiet n stamp actor (calls.Mqconn qmgr appl) (chances.Foreign image length left) seen is can own = refl
-own_quiet n stamp actor (calls.Mqdisc hc) (chances.Restart choice) seen is can own = refl
-own_quiet n stamp actor (calls.Mqdisc hc) (chances.Foreign image length left) seen is can own = refl
-own_quiet n stamp actor (calls.Mqopen hc name qmgr how) (chances.Restart choice) seen is can own = refl
-own_quiet n stamp actor (calls.Mqopen hc name qmgr how) (chances.Foreign image length left) seen is can own = refl
-own_quiet n stamp actor (calls.Mqclose hc ho) (chances.Restart choice) seen is can own = refl
-own_quiet n stamp actor (calls.Mqclose hc ho) (chances.Foreign image length left) seen is can own = refl
-own_quiet n stamp actor (calls.Mqput hc ho md body sync) (chances.Restart choice) seen is can own = refl
-own_quiet n stamp actor (calls.Mqput hc ho md body sync) (chances.Foreign image length left) seen is can own = refl
-own_quiet n stamp actor (calls.Mqput1 hc name qmgr md body sync) (chances.Restart choice) seen is can own = refl
-own_quiet n stamp actor (calls.Mqput1 hc name qmgr md body sync) (chances.Foreign image length left) seen is can own = refl
-own_quiet n stamp actor (calls.Mqget hc ho get until) (chances.Restart choice) seen is can own = refl
-own_quiet n stamp actor (calls.Mqget hc ho get until) (chances.Foreign image length left) seen is can own = refl
-own_quiet n stamp actor (calls.Mqcmit hc) (chances.Restart choice) seen is can own = refl
-own_quiet n stamp actor (calls.Mqcmit hc) (chances.Foreign image length left) seen is can own = refl
-own_quiet n stamp actor (calls.Mqback hc) (chances.Restart choice) seen is can own = refl
-own_quiet n stamp actor (calls.Mqback hc) (chances.Foreign image length left) seen is can own = refl
-own_quiet n stamp actor calls.Trigger (chances.Restart choice) seen is can own = refl
-own_quiet n stamp actor calls.Trigger (chances.Foreign image length left) seen is can own = refl
-own_quiet n stamp actor (calls.Act (acts.Obey c)) (chances.Restart choice) seen is can own = refl
-own_quiet n stamp actor (calls.Act (acts.Obey c)) (chances.Foreign image length left) seen is can own = refl
+own_quiet n stamp actor call chance seen is can own = refl
 
 -- of any, where there are no ends
 pub event_quiet : (n : Node) (stamp : ℕ) (actor : Actor) (call : Call) (chance : Chance) (seen : Seen) → n.own.ends ≡ [] → IsEvent stamp actor call chance seen n → IsOwn chance → IsNoteQuiet n.manager.running → IsQuiet (event stamp actor call chance seen n).delta
-event_quiet n stamp actor (calls.Mqconn qmgr appl) (chances.Call choice) seen e can own none = own_quiet n stamp actor (calls.Mqconn qmgr appl) (chances.Call choice) seen tt can own
-event_quiet n stamp actor (calls.Mqdisc hc) (chances.Call choice) seen e can own none = own_quiet n stamp actor (calls.Mqdisc hc) (chances.Call choice) seen tt can own
-event_quiet n stamp actor (calls.Mqopen hc name qmgr how) (chances.Call choice) seen e can own none = own_quiet n stamp actor (calls.Mqopen hc name qmgr how) (chances.Call choice) seen tt can own
-event_quiet n stamp actor (calls.Mqclose hc ho) (chances.Call choice) seen e can own none = own_quiet n stamp actor (calls.Mqclose hc ho) (chances.Call choice) seen tt can own
-event_quiet n stamp actor (calls.Mqput hc ho md body sync) (chances.Call choice) seen e can own none = own_quiet n stamp actor (calls.Mqput hc ho md body sync) (chances.Call choice) seen tt can own
-event_quiet n stamp actor (calls.Mqput1 hc name qmgr md body sync) (chances.Call choice) seen e can own none = own_quiet n stamp actor (calls.Mqput1 hc name qmgr md body sync) (chances.Call choice) seen tt can own
-event_quiet n stamp actor (calls.Mqget hc ho get until) (chances.Call choice) seen e can own none = own_quiet n stamp actor (calls.Mqget hc ho get until) (chances.Call choice) seen tt can own
-event_quiet n stamp actor (calls.Mqcmit hc) (chances.Call choice) seen e can own none = own_quiet n stamp actor (calls.Mqcmit hc) (chances.Call choice) seen tt can own
-event_quiet n stamp actor (calls.Mqback hc) (chances.Call choice) seen e can own none = own_quiet n stamp actor (calls.Mqback hc) (chances.Call choice) seen tt can own
-event_quiet n stamp actor (calls.Act (acts.Obey (lines.Objects c))) (chances.Call choice) seen e can own none = own_quiet n stamp actor (calls.Act (acts.Obey (lines.Objects c))) (chances.Call choice) seen tt can own
 event_quiet n stamp actor (calls.Act (acts.Obey (lines.Operate op))) (chances.Call choice) seen e can own none = let d = operated_is op n e in subst (λ x. IsQuiet (done x choice n).delta) (sym d.1) (done_quiet (told (replies.Acted (acted.Op d.0)) n.own) choice n tt)
-event_quiet n stamp actor (calls.Act (acts.Obey (lines.ShowStatus name any_end))) (chances.Call choice) seen e can own none = own_quiet n stamp actor (calls.Act (acts.Obey (lines.ShowStatus name any_end))) (chances.Call choice) seen tt can own
-event_quiet n stamp actor calls.Trigger (chances.Call choice) seen e can own none = own_quiet n stamp actor calls.Trigger (chances.Call choice) seen tt can own
 event_quiet n stamp actor (calls.Act acts.Crash) chance seen e can own none = stop_quiet n.manager.running n
 event_quiet n stamp actor (calls.Act acts.Restart) (chances.Call choice) seen e can own none = absurd can
 event_quiet n stamp actor (calls.Act acts.Restart) (chances.Restart choice) seen e can own none = return_quiet n.manager.running choice n can none
 event_quiet n stamp actor (calls.Act acts.Restart) (chances.Foreign image length left) seen e can own none = absurd own
-event_quiet n stamp actor (calls.Act (acts.Cut k)) chance seen e can own none = own_quiet n stamp actor (calls.Act (acts.Cut k)) chance seen tt can own
-event_quiet n stamp actor (calls.Act (acts.Clock by_)) chance seen e can own none = own_quiet n stamp actor (calls.Act (acts.Clock by_)) chance seen tt can own
 event_quiet n stamp actor calls.Turn (chances.Call choice) seen e can own none = up_quiet n.manager.running (turn_up stamp actor seen n) choice n (turn_deed_quiet stamp actor seen n e)
 event_quiet n stamp actor calls.Turn (chances.Restart choice) seen e can own none = refl
 event_quiet n stamp actor calls.Turn (chances.Foreign image length left) seen e can own none = refl
 event_quiet n stamp actor calls.Timeout chance seen e can own none = absurd (no_deed n.manager.running (timeout_by actor n) chance n (timeout_none actor n e) can)
-event_quiet n stamp actor (calls.Mqconn qmgr appl) (chances.Restart choice) seen e can own none = own_quiet n stamp actor (calls.Mqconn qmgr appl) (chances.Restart choice) seen tt can own
-event_quiet n stamp actor (calls.Mqconn qmgr appl) (chances.Foreign image length left) seen e can own none = own_quiet n stamp actor (calls.Mqconn qmgr appl) (chances.Foreign image length left) seen tt can own
-event_quiet n stamp actor (calls.Mqdisc hc) (chances.Restart choice) seen e can own none = own_quiet n stamp actor (calls.Mqdisc hc) (chances.Restart choice) seen tt can own
-event_quiet n stamp actor (calls.Mqdisc hc) (chances.Foreign image length left) seen e can own none = own_quiet n stamp actor (calls.Mqdisc hc) (chances.Foreign image length left) seen tt can own
-event_quiet n stamp actor (calls.Mqopen hc name qmgr how) (chances.Restart choice) seen e can own none = own_quiet n stamp actor (calls.Mqopen hc name qmgr how) (chances.Restart choice) seen tt can own
-event_quiet n stamp actor (calls.Mqopen hc name qmgr how) (chances.Foreign image length left) seen e can own none = own_quiet n stamp actor (calls.Mqopen hc name qmgr how) (chances.Foreign image length left) seen tt can own
-event_quiet n stamp actor (calls.Mqclose hc ho) (chances.Restart choice) seen e can own none = own_quiet n stamp actor (calls.Mqclose hc ho) (chances.Restart choice) seen tt can own
-event_quiet n stamp actor (calls.Mqclose hc ho) (chances.Foreign image length left) seen e can own none = own_quiet n stamp actor (calls.Mqclose hc ho) (chances.Foreign image length left) seen tt can own
-event_quiet n stamp actor (calls.Mqput hc ho md body sync) (chances.Restart choice) seen e can own none = own_quiet n stamp actor (calls.Mqput hc ho md body sync) (chances.Restart choice) seen tt can own
-event_quiet n stamp actor (calls.Mqput hc ho md body sync) (chances.Foreign image length left) seen e can own none = own_quiet n stamp actor (calls.Mqput hc ho md body sync) (chances.Foreign image length left) seen tt can own
-event_quiet n stamp actor (calls.Mqput1 hc name qmgr md body sync) (chances.Restart choice) seen e can own none = own_quiet n stamp actor (calls.Mqput1 hc name qmgr md body sync) (chances.Restart choice) seen tt can own
-event_quiet n stamp actor (calls.Mqput1 hc name qmgr md body sync) (chances.Foreign image length left) seen e can own none = own_quiet n stamp actor (calls.Mqput1 hc name qmgr md body sync) (chances.Foreign image length left) seen tt can own
-event_quiet n stamp actor (calls.Mqget hc ho get until) (chances.Restart choice) seen e can own none = own_quiet n stamp actor (calls.Mqget hc ho get until) (chances.Restart choice) seen tt can own
-event_quiet n stamp actor (calls.Mqget hc ho get until) (chances.Foreign image length left) seen e can own none = own_quiet n stamp actor (calls.Mqget hc ho get until) (chances.Foreign image length left) seen tt can own
-event_quiet n stamp actor (calls.Mqcmit hc) (chances.Restart choice) seen e can own none = own_quiet n stamp actor (calls.Mqcmit hc) (chances.Restart choice) seen tt can own
-event_quiet n stamp actor (calls.Mqcmit hc) (chances.Foreign image length left) seen e can own none = own_quiet n stamp actor (calls.Mqcmit hc) (chances.Foreign image length left) seen tt can own
-event_quiet n stamp actor (calls.Mqback hc) (chances.Restart choice) seen e can own none = own_quiet n stamp actor (calls.Mqback hc) (chances.Restart choice) seen tt can own
-event_quiet n stamp actor (calls.Mqback hc) (chances.Foreign image length left) seen e can own none = own_quiet n stamp actor (calls.Mqback hc) (chances.Foreign image length left) seen tt can own
-event_quiet n stamp actor calls.Trigger (chances.Restart choice) seen e can own none = own_quiet n stamp actor calls.Trigger (chances.Restart choice) seen tt can own
-event_quiet n stamp actor calls.Trigger (chances.Foreign image length left) seen e can own none = own_quiet n stamp actor calls.Trigger (chances.Foreign image length left) seen tt can own
 event_quiet n stamp actor (calls.Act (acts.Obey c)) (chances.Restart choice) seen e can own none = refl
 event_quiet n stamp actor (calls.Act (acts.Obey c)) (chances.Foreign image length left) seen e can own none = refl
+event_quiet n stamp actor call chance seen e can own none = own_quiet n stamp actor call chance seen tt can own

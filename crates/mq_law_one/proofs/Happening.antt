@@ -20,15 +20,10 @@ use Rattle.mq_history.specs.declared.calls.Chance.TheVariants as chances
 use Rattle.mq_history.specs.declared.calls.Entry.{Entry}
 use Rattle.mq_history.specs.declared.calls.Reply.{Reply}
 use Rattle.mq_history.specs.declared.calls.Reply.TheVariants as replies
-use Rattle.mq_calls.specs.declared.records.LogRecord.{LogRecord}
-use Rattle.mq_objects.specs.Names.{local_of}
-use Rattle.mq_calls.specs.State.{Plain, Given, Running, Noted, Change}
+use Rattle.mq_calls.specs.State.{Plain, Given, Running, Noted}
 use Rattle.mq_calls.specs.State.Running.{Up, Down}
-use Rattle.mq_calls.specs.State.Change.{Place, Try, Leave, Hold, Release, Connect, Disconnect, OpenHandle, CloseHandle, SetCursor, Pend, EndUnit, MakeStale, CountIdent, ChangeObjects, Renew, DropQueue, SwitchOn, Serve, SetSender, SetReceiver, Undoubt, Seize, Unseize, AddBatch, DropBatch, SetBound, SetMoment, ForgetAll}
 use Rattle.mq_calls.specs.Reads.{is_up, connection_at}
-use Rattle.mq_calls.specs.Changes.{apply, apply_all, try_if}
-use Rattle.mq_calls.specs.Condition.{condition}
-use Rattle.mq_calls.specs.Steps.{Step, Part, logged, do_part, do_all, delta_of, delta_before, stopped_at, IsWrite}
+use Rattle.mq_calls.specs.Steps.{Step, Part, do_part, do_all, delta_of, delta_before, stopped_at, IsWrite}
 use Rattle.mq_calls.specs.Steps.Step.{Refuse, Do}
 use Rattle.mq_spec_manager.specs.Handles.{connected, live_or, for_connection, is_other, is_present}
 use Rattle.mq_spec_node.specs.Node.{Node, Own}
@@ -39,6 +34,7 @@ use Rattle.mq_spec_network.specs.Ledger.{Ledger, Users, posted, cut, take_all_go
 use Rattle.mq_law_manager.specs.Kept.{StepKeeps, AllKeep}
 use Rattle.mq_law_manager.specs.Facts.{IsSound, IsFrozen}
 use Rattle.mq_law_manager.proofs.Ending.{ends}
+use Rattle.mq_law_manager.proofs.Untouched.{parts_running}
 use Rattle.mq_law_events.specs.Tied.{Follow}
 use Rattle.mq_law_events.specs.Posting.{StepFollows, StopFollows}
 use Rattle.mq_law_events.proofs.Telling.{here_changed, else_then, else_users}
@@ -91,58 +87,6 @@ became_marked {E} m given n l next k g cs mo a f state noted =
 -- a call whose write is stopped is marked
 abbrev pub mark : Entry → Users → Users
 mark e u = record u { cut = Some (record { entry = e; moment = u.moment }) }
-
--- Running
-
-apply_running : (c : Change) (p : Plain) → (apply c p).running ≡ p.running
-apply_running (Place q m) p = refl
-apply_running (Try q n) p = go (condition (local_of q p.definitions) n p)
-  where
-    go : (t : Bool) → (try_if t q p).running ≡ p.running
-    go true = refl
-    go false = refl
-apply_running (Leave w) p = refl
-apply_running (Hold w h) p = refl
-apply_running (Release w b) p = refl
-apply_running (Connect c) p = refl
-apply_running (Disconnect n) p = refl
-apply_running (OpenHandle n h) p = refl
-apply_running (CloseHandle n h) p = refl
-apply_running (SetCursor n h x) p = refl
-apply_running (Pend n i) p = refl
-apply_running (EndUnit n) p = refl
-apply_running (MakeStale s) p = refl
-apply_running CountIdent p = refl
-apply_running (ChangeObjects x) p = refl
-apply_running (Renew q) p = refl
-apply_running (DropQueue q) p = refl
-apply_running (SwitchOn q) p = refl
-apply_running (Serve q) p = refl
-apply_running (SetSender c d) p = refl
-apply_running (SetReceiver c d) p = refl
-apply_running (Undoubt i) p = refl
-apply_running (Seize s) p = refl
-apply_running (Unseize c) p = refl
-apply_running (AddBatch b) p = refl
-apply_running (DropBatch c) p = refl
-apply_running (SetBound c b) p = refl
-apply_running (SetMoment t) p = refl
-apply_running ForgetAll p = refl
-
-changes_running : (cs : List Change) (p : Plain) → (apply_all cs p).running ≡ p.running
-changes_running [] p = refl
-changes_running (c ∷ cs) p = changes_running cs (apply c p) ∙ apply_running c p
-
-part_running : (part : Part) (p : Plain) → (do_part part p).running ≡ p.running
-part_running part p = changes_running part.changes (logged part.forced p) ∙ go part.forced
-  where
-    go : (r : Option LogRecord) → (logged r p).running ≡ p.running
-    go None = refl
-    go (Some r) = refl
-
-pub parts_running : (parts : List Part) (p : Plain) → (do_all parts p).running ≡ p.running
-parts_running [] p = refl
-parts_running (part ∷ parts) p = parts_running parts (do_part part p) ∙ part_running part p
 
 -- a stopped write leaves the manager down, with its note
 pub stopped_running : (n : ℕ) (parts : List Part) (left : ℕ) (p : Plain) → IsWrite n parts → (stopped_at n parts left p).running ≡ Down (note_at n parts) 0

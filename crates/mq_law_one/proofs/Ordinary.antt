@@ -22,7 +22,7 @@ use Rattle.mq_spec_node.specs.Deeds.{Deed}
 use Rattle.mq_spec_node.specs.Happens.{get_deed, trigger_deed, IsEvent, IsDeed, where_up, turn_up}
 use Rattle.mq_spec_node.specs.Replays.{IsOwn}
 use Rattle.mq_spec_network.specs.Ledger as ledgers
-use Rattle.mq_spec_network.specs.Ledger.{Ledger, ledger, posted, users_at, users_or}
+use Rattle.mq_spec_network.specs.Ledger.{Ledger, users_at, users_or}
 use Rattle.mq_law_events.specs.Tied.{IsElse}
 use Rattle.mq_law_one.specs.Alone.{IsNotedAt, IsAt, IsOwnCall}
 use Rattle.mq_law_one.proofs.Calls.{Happens, conn_happens, disc_happens, open_happens, close_happens, put_happens, put1_happens, get_happens, commit_happens, back_happens}
@@ -36,66 +36,34 @@ never_restart (Some d) choice n z = z
 pub ordinary_happens : {E : ledgers.Stopped → Noted → Plain → Type 0} (m : ℕ) (given : Ident → Bool) (n : Node) (l : Ledger) (e : Entry) (stamp : ℕ) (actor : Actor) (call : Call) (chance : Chance) (seen : Seen) → IsAt E m given n l → IsOwnCall actor call → IsEvent stamp actor call chance seen n → IsOwn chance
     → Happens E m given n l e stamp actor call chance seen
 ordinary_happens {E} m given n l e stamp actor (calls.Mqconn qmgr appl) (chances.Call choice) seen a is can own = conn_happens m given n l e actor choice qmgr appl a can
-ordinary_happens {E} m given n l e stamp actor (calls.Mqconn qmgr appl) (chances.Restart choice) seen a is can own = absurd can
-ordinary_happens {E} m given n l e stamp actor (calls.Mqconn qmgr appl) (chances.Foreign image length left) seen a is can own = absurd can
 ordinary_happens {E} m given n l e stamp actor (calls.Mqdisc hc) (chances.Call choice) seen a is can own = disc_happens m given n l e actor choice hc a can
-ordinary_happens {E} m given n l e stamp actor (calls.Mqdisc hc) (chances.Restart choice) seen a is can own = absurd can
-ordinary_happens {E} m given n l e stamp actor (calls.Mqdisc hc) (chances.Foreign image length left) seen a is can own = absurd can
 ordinary_happens {E} m given n l e stamp actor (calls.Mqopen hc name qmgr how) (chances.Call choice) seen a is can own = open_happens m given n l e actor choice hc name qmgr how a can
-ordinary_happens {E} m given n l e stamp actor (calls.Mqopen hc name qmgr how) (chances.Restart choice) seen a is can own = absurd can
-ordinary_happens {E} m given n l e stamp actor (calls.Mqopen hc name qmgr how) (chances.Foreign image length left) seen a is can own = absurd can
 ordinary_happens {E} m given n l e stamp actor (calls.Mqclose hc ho) (chances.Call choice) seen a is can own = close_happens m given n l e actor choice hc ho a can
-ordinary_happens {E} m given n l e stamp actor (calls.Mqclose hc ho) (chances.Restart choice) seen a is can own = absurd can
-ordinary_happens {E} m given n l e stamp actor (calls.Mqclose hc ho) (chances.Foreign image length left) seen a is can own = absurd can
 ordinary_happens {E} m given n l e stamp actor (calls.Mqput hc ho md body sync) (chances.Call choice) seen a is can own = put_happens m given n l e actor choice hc ho md body sync a can
-ordinary_happens {E} m given n l e stamp actor (calls.Mqput hc ho md body sync) (chances.Restart choice) seen a is can own = absurd can
-ordinary_happens {E} m given n l e stamp actor (calls.Mqput hc ho md body sync) (chances.Foreign image length left) seen a is can own = absurd can
 ordinary_happens {E} m given n l e stamp actor (calls.Mqput1 hc name qmgr md body sync) (chances.Call choice) seen a is can own = put1_happens m given n l e actor choice hc name qmgr md body sync a can
-ordinary_happens {E} m given n l e stamp actor (calls.Mqput1 hc name qmgr md body sync) (chances.Restart choice) seen a is can own = absurd can
-ordinary_happens {E} m given n l e stamp actor (calls.Mqput1 hc name qmgr md body sync) (chances.Foreign image length left) seen a is can own = absurd can
 ordinary_happens {E} m given n l e stamp actor (calls.Mqget hc ho get until) (chances.Call choice) seen a is can own = get_happens m given n l e actor choice hc ho get until a can
-ordinary_happens {E} m given n l e stamp actor (calls.Mqget hc ho get until) (chances.Restart choice) seen a is can own = absurd (no_restart (get_deed n.own (mqget hc ho get until n.manager)) can)
-  where
-    no_restart : (d : Option Deed) → IsDeed d (chances.Restart choice) n → ⊥
-    no_restart None z = z
-    no_restart (Some d) z = z
+ordinary_happens {E} m given n l e stamp actor (calls.Mqget hc ho get until) (chances.Restart choice) seen a is can own = absurd (never_restart (get_deed n.own (mqget hc ho get until n.manager)) choice n can)
 ordinary_happens {E} m given n l e stamp actor (calls.Mqget hc ho get until) (chances.Foreign image length left) seen a is can own = absurd own
 ordinary_happens {E} m given n l e stamp actor (calls.Mqcmit hc) (chances.Call choice) seen a is can own = commit_happens m given n l e actor choice hc a can
-ordinary_happens {E} m given n l e stamp actor (calls.Mqcmit hc) (chances.Restart choice) seen a is can own = absurd can
-ordinary_happens {E} m given n l e stamp actor (calls.Mqcmit hc) (chances.Foreign image length left) seen a is can own = absurd can
 ordinary_happens {E} m given n l e stamp actor (calls.Mqback hc) (chances.Call choice) seen a is can own = back_happens m given n l e actor choice hc a can
-ordinary_happens {E} m given n l e stamp actor (calls.Mqback hc) (chances.Restart choice) seen a is can own = absurd can
-ordinary_happens {E} m given n l e stamp actor (calls.Mqback hc) (chances.Foreign image length left) seen a is can own = absurd can
 ordinary_happens {E} m given n l e stamp actor (calls.Act (acts.Obey (lines.Objects c))) (chances.Call choice) seen a is can own = command_happens m given n l e actor choice c a can
 ordinary_happens {E} m given n l e stamp actor (calls.Act (acts.Obey (lines.Operate op))) (chances.Call choice) seen a is can own = absurd is
 ordinary_happens {E} m given n l e stamp actor (calls.Act (acts.Obey (lines.ShowStatus name any_end))) (chances.Call choice) seen a is can own = status_happens m given n l e actor choice name any_end a can
-ordinary_happens {E} m given n l e stamp actor (calls.Act (acts.Obey c)) (chances.Restart choice) seen a is can own = absurd can
-ordinary_happens {E} m given n l e stamp actor (calls.Act (acts.Obey c)) (chances.Foreign image length left) seen a is can own = absurd can
 ordinary_happens {E} m given n l e stamp actor (calls.Act acts.Crash) chance seen a is can own = absurd is
 ordinary_happens {E} m given n l e stamp actor (calls.Act acts.Restart) chance seen a is can own = absurd is
 ordinary_happens {E} m given n l e stamp actor (calls.Act (acts.Cut k)) (chances.Call choice) seen a is can own = aside_happens m given n l n.own n.manager.running (record n.manager.log { armed = k }) a refl a.noted
-ordinary_happens {E} m given n l e stamp actor (calls.Act (acts.Cut k)) (chances.Restart choice) seen a is can own = absurd can
-ordinary_happens {E} m given n l e stamp actor (calls.Act (acts.Cut k)) (chances.Foreign image length left) seen a is can own = absurd can
 ordinary_happens {E} m given n l e stamp actor (calls.Act (acts.Clock by_)) (chances.Call choice) seen a is can own = clock_happens m given n l by_ a
-ordinary_happens {E} m given n l e stamp actor (calls.Act (acts.Clock by_)) (chances.Restart choice) seen a is can own = absurd can
-ordinary_happens {E} m given n l e stamp actor (calls.Act (acts.Clock by_)) (chances.Foreign image length left) seen a is can own = absurd can
 ordinary_happens {E} m given n l e stamp (actors.Handler number) calls.Turn (chances.Call choice) seen a is can own = turn_happens m given n l e (actors.Handler number) choice n.manager.running (handler_in number n.own.handlers) a refl can
 ordinary_happens {E} m given n l e stamp (actors.Sender k) calls.Turn (chances.Call choice) seen a is can own = absurd is
 ordinary_happens {E} m given n l e stamp (actors.Receiver k) calls.Turn (chances.Call choice) seen a is can own = absurd is
-ordinary_happens {E} m given n l e stamp (actors.Script k) calls.Turn (chances.Call choice) seen a is can own = absurd (no_deed n.manager.running None (chances.Call choice) n refl can)
-ordinary_happens {E} m given n l e stamp (actors.Monitor k) calls.Turn (chances.Call choice) seen a is can own = absurd (no_deed n.manager.running None (chances.Call choice) n refl can)
-ordinary_happens {E} m given n l e stamp actors.Operator calls.Turn (chances.Call choice) seen a is can own = absurd (no_deed n.manager.running None (chances.Call choice) n refl can)
-ordinary_happens {E} m given n l e stamp actors.Clock calls.Turn (chances.Call choice) seen a is can own = absurd (no_deed n.manager.running None (chances.Call choice) n refl can)
+ordinary_happens {E} m given n l e stamp actor calls.Turn (chances.Call choice) seen a is can own = absurd (no_deed n.manager.running None (chances.Call choice) n refl can)
 ordinary_happens {E} m given n l e stamp actor calls.Turn (chances.Restart choice) seen a is can own = absurd (never_restart (where_up n.manager.running (turn_up stamp actor seen n)) choice n can)
 ordinary_happens {E} m given n l e stamp actor calls.Turn (chances.Foreign image length left) seen a is can own = absurd own
 ordinary_happens {E} m given n l e stamp actor calls.Timeout chance seen a is can own = absurd is
 ordinary_happens {E} m given n l e stamp actor calls.Trigger (chances.Call choice) seen a is can own = trigger_happens m given n l e stamp actor choice seen a can
-ordinary_happens {E} m given n l e stamp actor calls.Trigger (chances.Restart choice) seen a is can own = absurd (no_restart (trigger_deed n) can)
-  where
-    no_restart : (d : Option Deed) → IsDeed d (chances.Restart choice) n → ⊥
-    no_restart None z = z
-    no_restart (Some d) z = z
+ordinary_happens {E} m given n l e stamp actor calls.Trigger (chances.Restart choice) seen a is can own = absurd (never_restart (trigger_deed n) choice n can)
 ordinary_happens {E} m given n l e stamp actor calls.Trigger (chances.Foreign image length left) seen a is can own = absurd own
+ordinary_happens {E} m given n l e stamp actor call chance seen a is can own = absurd can
 
 -- The other managers stay
 

@@ -22,18 +22,15 @@ use Rattle.mq_history.specs.declared.scenario.Scenario.{Scenario}
 use Rattle.mq_sc_parse.specs.declared.command.Command.TheVariants as lines
 use Rattle.mq_calls.specs.State.{Plain, Queue, Running}
 use Rattle.mq_calls.specs.State.Running.{Up, Down}
-use Rattle.mq_spec_node.specs.Node.{Node}
+use Rattle.mq_spec_node.specs.Node.{Node, Own}
 use Rattle.mq_spec_manager.specs.Stops.{failed, restart_at, restarted, stop_at}
 use Rattle.mq_calls.specs.declared.choices.Choice.{Choice}
 use Rattle.mq_calls.specs.declared.choices.Choice.TheVariants.{Runs, NoMemory, Stopped}
 use Rattle.mq_calls.specs.declared.choices.Return.TheVariants.{Comes, Fails}
 use Rattle.mq_calls.specs.declared.commands.RestartFault.TheVariants as faults
 use Rattle.mq_history.specs.declared.calls.Reply.{Reply}
-use Rattle.mq_calls.specs.State.Running.{Up, Down}
-use Rattle.mq_spec_node.specs.Node.{Own}
 use Rattle.mq_spec_node.specs.Deeds.{Deed, done, end_at_rest, end_begun}
-use Rattle.mq_spec_node.specs.Happens.{IsEvent, choice_event, crashed, deed_of, event, remembered, remembering, timeout_by, turn_up, where_up}
-use Rattle.mq_spec_node.specs.Happens.{restarted as node_restarted}
+use Rattle.mq_spec_node.specs.Happens.{IsEvent, choice_event, crashed, deed_of, event, remembered, remembering, timeout_by, turn_up, where_up, restarted as node_restarted}
 use Rattle.mq_law_node.specs.Quiet.{EachQuiet, IsOrdinary}
 use Rattle.mq_law_node.proofs.Ordinary.{ordinary_is_quiet}
 use Rattle.mq_spec_node.specs.Replays.{Tells, NoneForeign, IsOwn, done_by, opening_node}
@@ -77,25 +74,7 @@ happens m given n l e stamp actor (calls.Act acts.Restart) chance seen a bare ca
 happens m given n l e stamp (actors.Sender k) calls.Turn chance seen a bare can own = absurd (no_deed n.manager.running (turn_up stamp (actors.Sender k) seen n) chance n (turn_none stamp (actors.Sender k) seen n bare.ends (λ j e. cc)) can)
 happens m given n l e stamp (actors.Receiver k) calls.Turn chance seen a bare can own = absurd (no_deed n.manager.running (turn_up stamp (actors.Receiver k) seen n) chance n (turn_none stamp (actors.Receiver k) seen n bare.ends (λ j e. cc)) can)
 happens m given n l e stamp actor calls.Timeout chance seen a bare can own = absurd (no_deed n.manager.running (timeout_by actor n) chance n (timeout_none actor n bare.ends) can)
-happens m given n l e stamp actor (calls.Mqconn qmgr appl) chance seen a bare can own = ordinary_happens m given n l e stamp actor (calls.Mqconn qmgr appl) chance seen a tt can own
-happens m given n l e stamp actor (calls.Mqdisc hc) chance seen a bare can own = ordinary_happens m given n l e stamp actor (calls.Mqdisc hc) chance seen a tt can own
-happens m given n l e stamp actor (calls.Mqopen hc name qmgr how) chance seen a bare can own = ordinary_happens m given n l e stamp actor (calls.Mqopen hc name qmgr how) chance seen a tt can own
-happens m given n l e stamp actor (calls.Mqclose hc ho) chance seen a bare can own = ordinary_happens m given n l e stamp actor (calls.Mqclose hc ho) chance seen a tt can own
-happens m given n l e stamp actor (calls.Mqput hc ho md body sync) chance seen a bare can own = ordinary_happens m given n l e stamp actor (calls.Mqput hc ho md body sync) chance seen a tt can own
-happens m given n l e stamp actor (calls.Mqput1 hc name qmgr md body sync) chance seen a bare can own = ordinary_happens m given n l e stamp actor (calls.Mqput1 hc name qmgr md body sync) chance seen a tt can own
-happens m given n l e stamp actor (calls.Mqget hc ho get until) chance seen a bare can own = ordinary_happens m given n l e stamp actor (calls.Mqget hc ho get until) chance seen a tt can own
-happens m given n l e stamp actor (calls.Mqcmit hc) chance seen a bare can own = ordinary_happens m given n l e stamp actor (calls.Mqcmit hc) chance seen a tt can own
-happens m given n l e stamp actor (calls.Mqback hc) chance seen a bare can own = ordinary_happens m given n l e stamp actor (calls.Mqback hc) chance seen a tt can own
-happens m given n l e stamp actor (calls.Act (acts.Obey (lines.Objects c))) chance seen a bare can own = ordinary_happens m given n l e stamp actor (calls.Act (acts.Obey (lines.Objects c))) chance seen a tt can own
-happens m given n l e stamp actor (calls.Act (acts.Obey (lines.ShowStatus name any_end))) chance seen a bare can own = ordinary_happens m given n l e stamp actor (calls.Act (acts.Obey (lines.ShowStatus name any_end))) chance seen a tt can own
-happens m given n l e stamp actor (calls.Act (acts.Cut k)) chance seen a bare can own = ordinary_happens m given n l e stamp actor (calls.Act (acts.Cut k)) chance seen a tt can own
-happens m given n l e stamp actor (calls.Act (acts.Clock by_)) chance seen a bare can own = ordinary_happens m given n l e stamp actor (calls.Act (acts.Clock by_)) chance seen a tt can own
-happens m given n l e stamp actor calls.Trigger chance seen a bare can own = ordinary_happens m given n l e stamp actor calls.Trigger chance seen a tt can own
-happens m given n l e stamp (actors.Handler k) calls.Turn chance seen a bare can own = ordinary_happens m given n l e stamp (actors.Handler k) calls.Turn chance seen a tt can own
-happens m given n l e stamp (actors.Script k) calls.Turn chance seen a bare can own = ordinary_happens m given n l e stamp (actors.Script k) calls.Turn chance seen a tt can own
-happens m given n l e stamp (actors.Monitor k) calls.Turn chance seen a bare can own = ordinary_happens m given n l e stamp (actors.Monitor k) calls.Turn chance seen a tt can own
-happens m given n l e stamp actors.Operator calls.Turn chance seen a bare can own = ordinary_happens m given n l e stamp actors.Operator calls.Turn chance seen a tt can own
-happens m given n l e stamp actors.Clock calls.Turn chance seen a bare can own = ordinary_happens m given n l e stamp actors.Clock calls.Turn chance seen a tt can own
+happens m given n l e stamp actor call chance seen a bare can own = ordinary_happens m given n l e stamp actor call chance seen a tt can own
 
 -- It stays without ends.
 
@@ -173,23 +152,7 @@ stays_bare stamp actor (calls.Act (acts.Clock by_)) chance seen n e can own = e
 stays_bare stamp (actors.Sender k) calls.Turn chance seen n e can own = deed_bare stamp (actors.Sender k) calls.Turn chance seen n e (none_bare stamp (actors.Sender k) calls.Turn seen n (up_none n.manager.running (turn_up stamp (actors.Sender k) seen n) (turn_none stamp (actors.Sender k) seen n e (λ j e. cc))))
 stays_bare stamp (actors.Receiver k) calls.Turn chance seen n e can own = deed_bare stamp (actors.Receiver k) calls.Turn chance seen n e (none_bare stamp (actors.Receiver k) calls.Turn seen n (up_none n.manager.running (turn_up stamp (actors.Receiver k) seen n) (turn_none stamp (actors.Receiver k) seen n e (λ j e. cc))))
 stays_bare stamp actor calls.Timeout chance seen n e can own = deed_bare stamp actor calls.Timeout chance seen n e (none_bare stamp actor calls.Timeout seen n (up_none n.manager.running (timeout_by actor n) (timeout_none actor n e)))
-stays_bare stamp actor (calls.Mqconn qmgr appl) chance seen n e can own = ordinary_bare stamp actor (calls.Mqconn qmgr appl) chance seen n tt e
-stays_bare stamp actor (calls.Mqdisc hc) chance seen n e can own = ordinary_bare stamp actor (calls.Mqdisc hc) chance seen n tt e
-stays_bare stamp actor (calls.Mqopen hc name qmgr how) chance seen n e can own = ordinary_bare stamp actor (calls.Mqopen hc name qmgr how) chance seen n tt e
-stays_bare stamp actor (calls.Mqclose hc ho) chance seen n e can own = ordinary_bare stamp actor (calls.Mqclose hc ho) chance seen n tt e
-stays_bare stamp actor (calls.Mqput hc ho md body sync) chance seen n e can own = ordinary_bare stamp actor (calls.Mqput hc ho md body sync) chance seen n tt e
-stays_bare stamp actor (calls.Mqput1 hc name qmgr md body sync) chance seen n e can own = ordinary_bare stamp actor (calls.Mqput1 hc name qmgr md body sync) chance seen n tt e
-stays_bare stamp actor (calls.Mqget hc ho get until) chance seen n e can own = ordinary_bare stamp actor (calls.Mqget hc ho get until) chance seen n tt e
-stays_bare stamp actor (calls.Mqcmit hc) chance seen n e can own = ordinary_bare stamp actor (calls.Mqcmit hc) chance seen n tt e
-stays_bare stamp actor (calls.Mqback hc) chance seen n e can own = ordinary_bare stamp actor (calls.Mqback hc) chance seen n tt e
-stays_bare stamp actor (calls.Act (acts.Obey (lines.Objects c))) chance seen n e can own = ordinary_bare stamp actor (calls.Act (acts.Obey (lines.Objects c))) chance seen n tt e
-stays_bare stamp actor (calls.Act (acts.Obey (lines.ShowStatus name any_end))) chance seen n e can own = ordinary_bare stamp actor (calls.Act (acts.Obey (lines.ShowStatus name any_end))) chance seen n tt e
-stays_bare stamp actor calls.Trigger chance seen n e can own = ordinary_bare stamp actor calls.Trigger chance seen n tt e
-stays_bare stamp (actors.Handler k) calls.Turn chance seen n e can own = ordinary_bare stamp (actors.Handler k) calls.Turn chance seen n tt e
-stays_bare stamp (actors.Script k) calls.Turn chance seen n e can own = ordinary_bare stamp (actors.Script k) calls.Turn chance seen n tt e
-stays_bare stamp (actors.Monitor k) calls.Turn chance seen n e can own = ordinary_bare stamp (actors.Monitor k) calls.Turn chance seen n tt e
-stays_bare stamp actors.Operator calls.Turn chance seen n e can own = ordinary_bare stamp actors.Operator calls.Turn chance seen n tt e
-stays_bare stamp actors.Clock calls.Turn chance seen n e can own = ordinary_bare stamp actors.Clock calls.Turn chance seen n tt e
+stays_bare stamp actor call chance seen n e can own = ordinary_bare stamp actor call chance seen n tt e
 
 -- A prefix
 
