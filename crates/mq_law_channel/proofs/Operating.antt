@@ -17,6 +17,7 @@ use Rattle.mq_law_channel.specs.Turns.{emptied, released, sender_started, sender
 use Rattle.mq_law_channel.proofs.Core.{empties, undoes, closes, unbinds, rests}
 use Rattle.mq_law_channel.proofs.Told.{bool_case}
 use Rattle.mq_law_channel.proofs.Receiving.{took}
+use Rattle.mq_law_channel.proofs.Sending.{moved}
 
 -- a sender that doesn't run holds nothing that wasn't prepared
 pub resting_quiet : (st : SenderState) (m : Sender) (s : Near) (content : Luw → List Letter) (batch : List Letter) → senders.is_running st ≡ false → Fits st m s content batch → Quiet s
@@ -32,21 +33,7 @@ awaiting_quiet st m s content batch e h = absurd cc
 -- the machine changes, and nothing else
 pub machine_changes : (c : Channel) (p : Past) (m : Sender) → Facts c p → (senders.is_running m.state ≡ true → m.kept ≡ senders.kept_of (Some c.sends)) → Fits m.state m p.near p.content c.batch
     → Facts (record c { sender = m }) p
-machine_changes c p m h kept fits = record {
-  sound = h.sound;
-  tied = record {
-    session = h.tied.session;
-    in_doubt = h.tied.in_doubt;
-    settled = h.tied.settled;
-    forced = h.tied.forced;
-    running = kept;
-    fits = fits;
-    bound_session = h.tied.bound_session;
-    bound_unit = h.tied.bound_unit;
-    bound_last = h.tied.bound_last;
-    came = h.tied.came;
-  };
-}
+machine_changes c p m h kept fits = moved c p m c.out h h.sound kept fits
 
 -- START
 pub sender_starts : (limits : Limits) (c : Channel) (p : Past) → Facts c p → senders.is_running c.sender.state ≡ false → Facts (sender_started limits c) p

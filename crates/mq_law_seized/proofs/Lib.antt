@@ -1,4 +1,5 @@
 pub mod Each
+pub mod Landing
 pub mod CommonCalls
 pub mod Written
 pub mod Changing

@@ -13,10 +13,11 @@ use Rattle.mq_calls.specs.State.{Plain}
 use Rattle.mq_calls.specs.Reads.{is_full, is_persistent}
 use Rattle.mq_calls.specs.Sizes.{need}
 use Rattle.mq_calls.specs.Steps.{when}
-use Rattle.mq_spec_manager.specs.Landing.{Landing, land}
-use Rattle.mq_spec_manager.specs.Agents.{Absent, InDoubtAt, Landed, Present, Standing, before, drop_changes, harden_part, is_present, land_changes, landed, landed_by, landed_unless, receive_landed, received_record, standing_at, undoubted, receive}
+use Rattle.mq_spec_manager.specs.Landing.{Landing}
+use Rattle.mq_spec_manager.specs.Agents.{Absent, InDoubtAt, Landed, Present, Standing, drop_changes, harden_part, land_changes, landed, receive_landed, received_record, undoubted, receive}
 use Rattle.mq_law_seized.specs.Each.{all_written, is_written, step_of_all}
 use Rattle.mq_law_seized.proofs.Each.{all_behind}
+use Rattle.mq_law_seized.proofs.Landing.{LandedHas, landed_has}
 use Rattle.mq_law_manager.proofs.ShortSteps.{tested_all}
 
 pub harden_written : (channel : List ℕ) (note : Note) (p : Plain) → all_written (harden_part channel note p).changes ≡ true
@@ -40,25 +41,14 @@ drop_written m (InDoubtAt queue) = undoubted_written (is_persistent m) m.ident
 land_written : (l : Landing) (s : Standing) → all_written (land_changes l s) ≡ true
 land_written l s = all_behind is_written (drop_changes l.message s) _ (drop_written l.message s) refl
 
+abbrev IsWritten : Landed → Type 0
+IsWritten l = all_written l.changes ≡ true
+
 abbrev LandsWritten : Result Landed Reason → Type 0
-LandsWritten (Err reason) = Unit {0}
-LandsWritten (Ok l) = all_written l.changes ≡ true
-
-before_written : (m : Message) (l : Landing) (s : Standing) (r : Result Landed Reason) → LandsWritten r → LandsWritten (before m l s r)
-before_written m l s (Err reason) h = tt
-before_written m l s (Ok rest) h = all_behind is_written (land_changes l s) rest.changes (land_written l s) h
-
-by_written : (o : Result Landing Reason) (m : Message) (s : Standing) (p : Plain) (rest : Plain → Result Landed Reason) → ((q : Plain) → LandsWritten (rest q)) → LandsWritten (landed_by o m s p rest)
-by_written (Err reason) m s p rest h = tt
-by_written (Ok l) m s p rest h = before_written m l s _ (h _)
-
-unless_written : (b : Bool) (channel : List ℕ) (m : Message) (s : Standing) (p : Plain) (rest : Plain → Result Landed Reason) → ((q : Plain) → LandsWritten (rest q)) → LandsWritten (landed_unless b channel m s p rest)
-unless_written true channel m s p rest h = h p
-unless_written false channel m s p rest h = by_written (land channel m p) m s p rest h
+LandsWritten r = LandedHas IsWritten r
 
 landed_written : (channel : List ℕ) (ms : List Message) (p : Plain) → LandsWritten (landed channel ms p)
-landed_written channel [] p = refl
-landed_written channel (m ∷ ms) p = unless_written (is_present (standing_at m p)) channel m (standing_at m p) p (λ q. landed channel ms q) (λ q. landed_written channel ms q)
+landed_written channel ms p = landed_has IsWritten refl (λ m l s rest h. all_behind is_written (land_changes l s) rest.changes (land_written l s) h) channel ms p
 
 received_written : (channel : List ℕ) (unit : Luw) (last : ℕ) (o : Result Landed Reason) (p : Plain) → LandsWritten o → step_of_all is_written (receive_landed channel unit last o p) ≡ true
 received_written channel unit last (Err reason) p h = refl
