@@ -14,14 +14,31 @@ const QUEUE: &str =
 const MANAGER: &str =
     "ALTER QMGR DEADQ('') DEFXMITQ('') MAXHANDS(256) MAXMSGL(4194304) MAXUMSGS(10000) TRIGINT(999999999)";
 
+/// An attribute that is only kept.
+fn kept(alloc: Global, keyword: &[u8], value: &[u8]) -> Result<Setting, AllocError> {
+    let value = Items::from_slice(alloc, value)?;
+    let keyword = Items::from_slice(alloc, keyword)?;
+    Ok(Setting::Kept(keyword, value))
+}
+
+/// Whether an object is made by this command.
+fn is_made_by(alloc: Global, object: &Object, command: &[u8]) -> bool {
+    match define_text(alloc, object) {
+        Ok(text) => text.as_slice() == command,
+        Err(_) => false,
+    }
+}
+
+/// Whether a local queue with a setting more is made by this command.
+fn is_queue_made_by(alloc: Global, setting: &Setting, command: &[u8]) -> bool {
+    let mut queue = Object::new(alloc, &Subject::Local(name_of("Q1")));
+    queue.give(alloc, setting).is_ok() && is_made_by(alloc, &queue, command)
+}
+
 #[test]
 fn a_definition_is_the_command_that_makes_it(rt: HostRuntime) -> Result<(), Fail> {
-    let mut queue = Object::new(rt.alloc(), &Subject::Local(name_of("Q1")));
-    let text = Items::from_slice(rt.alloc(), b"It's")?;
-    let keyword = Items::from_slice(rt.alloc(), b"DESCR")?;
-    queue.give(rt.alloc(), &Setting::Kept(keyword, text))?;
-    let text = define_text(rt.alloc(), &queue)?;
-    assert_eq!(rt; text.as_slice(), QUEUE.as_bytes());
+    let setting = kept(rt.alloc(), b"DESCR", b"It's")?;
+    assert!(rt; is_queue_made_by(rt.alloc(), &setting, QUEUE.as_bytes()));
     Ok(())
 }
 
@@ -32,41 +49,67 @@ fn a_managers_attributes_are_the_command_that_gives_them(rt: HostRuntime) -> Res
     Ok(())
 }
 
-fn add(alloc: Global, defs: &mut Defs, subject: Subject) -> Result<(), AllocError> {
-    defs.reserve()?;
-    defs.set(Object::new(alloc, &subject));
-    Ok(())
+/// Kinds of objects.
+enum Kind {
+    Local,
+    Alias,
+    Remote,
+    Process,
 }
 
-/// Three objects of one name and one of another, with the second deleted.
-fn four(alloc: Global) -> Result<Defs, AllocError> {
-    let mut defs = Defs::new(alloc);
-    add(alloc, &mut defs, Subject::Local(name_of("B")))?;
-    add(alloc, &mut defs, Subject::Process(name_of("B")))?;
-    add(alloc, &mut defs, Subject::Alias(name_of("A")))?;
-    add(alloc, &mut defs, Subject::Remote(name_of("B")))?;
-    defs.delete(&Subject::Process(name_of("B")));
-    Ok(defs)
-}
-
-/// The kinds of the objects in order.
-fn kinds(alloc: Global, defs: &Defs) -> Result<String, AllocError> {
-    let mut kinds = String::new(alloc);
-    for place in 0..defs.len() {
-        if let Some(object) = defs.object_at(place) {
-            kinds.push_str(object.kind_word())?;
-            kinds.push_str(" ")?;
-        }
+fn subject_of(kind: &Kind, name: &str) -> Subject {
+    let name = name_of(name);
+    match *kind {
+        Kind::Local => Subject::Local(name),
+        Kind::Alias => Subject::Alias(name),
+        Kind::Remote => Subject::Remote(name),
+        Kind::Process => Subject::Process(name),
     }
-    Ok(kinds)
 }
+
+/// An object more; none, where memory lacks.
+fn add(alloc: Global, defs: &mut Defs, kind: &Kind, name: &str) {
+    if defs.reserve().is_ok() {
+        defs.set(Object::new(alloc, &subject_of(kind, name)));
+    }
+}
+
+/// Three objects of one name and one of another, in their order.
+const FOUR: [(Kind, &str); 4] = [
+    (Kind::Local, "B"),
+    (Kind::Process, "B"),
+    (Kind::Alias, "A"),
+    (Kind::Remote, "B"),
+];
+
+/// The four, with the second deleted.
+fn four(alloc: Global) -> Defs {
+    let mut defs = Defs::new(alloc);
+    for (kind, name) in &FOUR {
+        add(alloc, &mut defs, kind, name);
+    }
+    defs.delete(&subject_of(&Kind::Process, "B"));
+    defs
+}
+
+/// Whether the object at a place is of this kind.
+fn is_kind(defs: &Defs, place: usize, kind: &str) -> bool {
+    match defs.object_at(place) {
+        Some(object) => object.kind_word() == kind,
+        None => false,
+    }
+}
+
+/// The kinds of the objects that are left, in order.
+const KINDS: [&str; 2] = ["QREMOTE", "QALIAS"];
 
 #[test]
-fn objects_stand_in_order_of_definition(rt: HostRuntime) -> Result<(), Fail> {
-    let defs = four(rt.alloc())?;
-    let kinds = kinds(rt.alloc(), &defs)?;
-    assert_eq!(rt; kinds.as_str(), "QREMOTE QALIAS ");
+fn objects_stand_in_order_of_definition(rt: HostRuntime) {
+    let defs = four(rt.alloc());
+    assert_eq!(rt; defs.len(), KINDS.len());
+    for (place, kind) in KINDS.iter().enumerate() {
+        assert!(rt; is_kind(&defs, place, kind), "object {place}");
+    }
     assert!(rt; defs.local(&name_of("B")).is_none());
     assert!(rt; defs.queue(&name_of("A")).is_some());
-    Ok(())
 }
