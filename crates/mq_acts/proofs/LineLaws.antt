@@ -1,5 +1,5 @@
 -- The next line of a script: what comes next of it was done.
-use Rattle.std.proofs.Common.{◌≡◌, ℕ, suc, ◌-◌, Bool, true, false, List, [], ◌∷◌, ◌++◌, length, refl, sym, ap, subst, ◌∙◌, arith}
+use Rattle.std.proofs.Common.{◌≡◌, ℕ, Bool, true, false, List, refl, sym, ap, subst, ◌∙◌, arith}
 use Rattle.std.specs.Prelude.{Option, Some, None, Result, Ok, Err, IsSome, IfSome, slice_get}
 use Rattle.std.specs.Option.{option_map}
 use Rattle.mq_base.specs.declared.want.NoMemory.{NoMemory}
@@ -10,36 +10,18 @@ use Rattle.mq_history.specs.declared.calls.Actor.TheVariants as actors
 use Rattle.mq_history.specs.declared.scripts.ScriptLine.TheVariants as lines
 use Rattle.mq_sc_parse.specs.declared.command.Command.TheVariants as commands
 use Rattle.mq_spec_manager.specs.Get.{is_waiting, mqget}
-use Rattle.mq_spec_node.specs.Terms.{Actor, Call, Entry, History, Plain, Reason, ScriptLine, ScriptPart, Step, Refuse, Do}
+use Rattle.mq_spec_node.specs.Terms.{Actor, Call, Entry, Plain, Reason, ScriptLine, ScriptPart, Step, Refuse, Do}
 use Rattle.mq_spec_node.specs.Words.{Memory, Node, Own, deadline_kept, deed_of, get_deed, get_of, hconn_or, hobj, is_none, line_call, next_if, waits_at}
 use Rattle.mq_spec_node.specs.Lines.Next.{Waits, Makes}
+use Rattle.mq_events.proofs.LastLaws.{adds_last}
 use Rattle.mq_events.proofs.NumberLaws.{WaitsOnly, get_waits}
 use Rattle.mq_progress.specs.Course.{Course, Finished, call_in, next_in, until_in}
-use Rattle.mq_events.specs.States.{NodeState, node_in}
-use Rattle.mq_events.specs.Events.{Adds, Stays}
+use Rattle.mq_events.specs.States.{NodeState, last_entry, node_in}
+use Rattle.mq_events.specs.Events.{Stays}
 use Rattle.mq_acts.specs.Asks.{IsDoneCall, IsGet, Made, MayWait}
-use Rattle.mq_acts.specs.Advances.{Advances, IsTextLine, Keeps, last_entry}
+use Rattle.mq_acts.specs.Advances.{Advances, IsTextLine, Keeps}
 use Rattle.mq_acts.specs.declared.advancing.Advanced.{Advanced}
 use Rattle.mq_acts.specs.declared.advancing.Advanced.TheVariants as advances
-
--- the last entry
-one_less : (x y : Entry) (es : List Entry) → slice_get (x ∷ y ∷ es) (length (x ∷ y ∷ es) - 1) ≡ slice_get (y ∷ es) (length (y ∷ es) - 1)
-one_less x y es =
-    let long : length (x ∷ y ∷ es) - 1 ≡ suc (length (y ∷ es) - 1) = omega arith in
-    ap (slice_get (x ∷ y ∷ es)) long
-
-pub last_is : (es : List Entry) → slice_get es (length es - 1) ≡ last_entry es
-last_is [] = refl
-last_is (x ∷ []) = refl
-last_is (x ∷ y ∷ es) = one_less x y es ∙ last_is (y ∷ es)
-
-behind : (es : List Entry) (e : Entry) → last_entry (es ++ e ∷ []) ≡ Some e
-behind [] e = refl
-behind (x ∷ []) e = refl
-behind (x ∷ y ∷ es) e = behind (y ∷ es) e
-
-pub adds_last : (who : Actor) (what : Call) (e : Entry) (old new : NodeState) → Adds who what e old new → last_entry new.history.entries ≡ Some e
-adds_last who what e old new a = ap (λ (h : History). last_entry h.entries) a.grows.history ∙ behind old.history.entries e
 
 -- the call of a line is one that a node does
 pub line_does : (label : List ℕ) (m : Memory) (until : Option ℕ) (l : ScriptLine) → IsTextLine l → IsDoneCall (line_call label m until l)

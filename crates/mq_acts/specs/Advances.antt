@@ -1,5 +1,5 @@
 -- What the next line of a script comes to.
-use Rattle.std.specs.Prelude.{◌≡◌, ℕ, List, [], ◌∷◌, Option, Some, None, Result, Ok, Err, slice_get}
+use Rattle.std.specs.Prelude.{◌≡◌, ℕ, Option, Some, None, Result, Ok, Err, slice_get}
 use Rattle.mq_base.specs.declared.want.NoMemory.{NoMemory}
 use Rattle.mq_history.specs.declared.calls.Actor.TheVariants as actors
 use Rattle.mq_history.specs.declared.scripts.ScriptLine.TheVariants as lines
@@ -23,12 +23,6 @@ Keeps until lines.Crash = until ≡ None
 Keeps until lines.Restart = until ≡ None
 Keeps until (lines.Cut k) = until ≡ None
 Keeps until _ = Unit {0}
-
--- the last of these
-abbrev pub last_entry : List Entry → Option Entry
-last_entry [] = None
-last_entry (e ∷ []) = Some e
-last_entry (e ∷ f ∷ es) = last_entry (f ∷ es)
 
 -- The line is done: its call, which is what comes next, is an event, and its answer is remembered.
 pub record LineDone (k : ℕ) (p : ScriptPart) (c d : Course) (old new : NodeState) : Type 0 where

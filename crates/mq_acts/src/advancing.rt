@@ -1,17 +1,17 @@
 //! The next line of a script.
-ghost use Rattle.std.specs.Prelude.{◌≡◌, ◌<◌, ◌^◌, Some, IfSome, IsSome, option_copied, slice_get};
+ghost use Rattle.std.specs.Prelude.{◌≡◌, ◌<◌, ◌^◌, Some, IfSome, IsSome, slice_get};
 ghost use Rattle.std.specs.Option.{option_map};
 ghost use Rattle.mq_acts.specs.declared.advancing.Advanced.TheVariants as advances;
-ghost use Rattle.mq_events.specs.States.{IsServed};
+ghost use Rattle.mq_events.specs.States.{IsServed, last_entry};
 ghost use Rattle.mq_events.specs.Events.{MayAct};
 ghost use Rattle.mq_progress.specs.Course.{Finished, until_in};
-ghost use Rattle.mq_acts.specs.Advances.{Advances, IsTextLine, Keeps, last_entry};
+ghost use Rattle.mq_acts.specs.Advances.{Advances, IsTextLine, Keeps};
 ghost use Rattle.mq_acts.specs.Restarts.{StaysOwn};
 
 use crate::asking::ask;
 use mq_base::NoMemory;
 use mq_disk::Disk;
-use mq_events::Node;
+use mq_events::{Node, last_entry};
 use mq_history::{Actor, Entry, ScriptLine, ScriptPart};
 use mq_progress::Progress;
 
@@ -24,14 +24,6 @@ pub enum Advanced {
     Waiting(u64),
     /// Nothing: no line is left.
     Ended,
-}
-
-/// The last entry.
-#[tactic(auto, using(crate::proofs::LineLaws::last_is))]
-fn last(entries: &[Entry]) -> Option<&Entry>
-    ensures { option_copied result ≡ last_entry entries.now }
-{
-    entries.last()
 }
 
 /// The get of the line waits, as long as it was to wait.
@@ -55,7 +47,7 @@ fn finish(entries: &[Entry], progress: &mut Progress, line: &ScriptLine)
     requires more { progress.old.done < 2 ^ 32 }
     ensures { IfSome (last_entry entries.now) (λ e. Finished line.now e.reply progress.old progress.new) }
 {
-    match last(entries) {
+    match last_entry(entries) {
         Some(entry) => progress.finish(line, &entry.reply),
         None => unreachable!(),
     }
@@ -66,7 +58,7 @@ fn finish(entries: &[Entry], progress: &mut Progress, line: &ScriptLine)
 /// # Errors
 ///
 /// No memory; nothing has changed.
-#[tactic(auto, using(crate::proofs::LineLaws::line_comes, crate::proofs::LineLaws::line_waits, crate::proofs::LineLaws::line_wants, crate::proofs::LineLaws::line_does, crate::proofs::LineLaws::waits_some, crate::proofs::LineLaws::adds_last))]
+#[tactic(auto, using(crate::proofs::LineLaws::line_comes, crate::proofs::LineLaws::line_waits, crate::proofs::LineLaws::line_wants, crate::proofs::LineLaws::line_does, crate::proofs::LineLaws::waits_some, mq_events::proofs::LastLaws::adds_last))]
 fn do_line<D: Disk>(
     node: &mut Node<D>,
     number: u16,

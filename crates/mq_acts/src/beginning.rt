@@ -1,13 +1,12 @@
 //! What is a node's own, as its manager starts.
 ghost use Rattle.std.specs.Prelude.{◌≡◌, map};
 ghost use Rattle.mq_spec_node.specs.Words.{begun_anew, end_begun};
-ghost use Rattle.mq_own.specs.Views.{forgetting_all};
 
 use crate::showing::receiver_kept;
 use mq_base::Items;
 use mq_disk::Disk;
 use mq_manager::Manager;
-use mq_own::{ChannelEnd, EndKind, Handler, Own};
+use mq_own::{ChannelEnd, EndKind, Own, forget_all};
 use mq_receiver::Receiver;
 
 /// A sender is inactive; a receiver has what is hardened, and has kept nothing.
@@ -28,14 +27,6 @@ fn begin_ends<D: Disk>(ends: &mut Items<ChannelEnd>, manager: &Manager<D>)
 {
     for at in 0..ends.len() {
         begin_end(ends.at_mut(at), manager);
-    }
-}
-
-fn forget_all(handlers: &mut Items<Handler>)
-    ensures { handlers.new ≡ map forgetting_all handlers.old }
-{
-    for at in 0..handlers.len() {
-        handlers.at_mut(at).forget_all();
     }
 }
 

@@ -35,7 +35,7 @@ use Rattle.mq_core.proofs.WriteLaws.{roomier_bodies}
 use Rattle.mq_core.proofs.PutLaws.{more_room, tied_roomier, roomier_view}
 use Rattle.mq_place.specs.Rooms.{RoomStays, RowsKept}
 use Rattle.mq_record.specs.Room.{Buffered}
-use Rattle.mq_agents.specs.Removing.{IsRoomy}
+use Rattle.mq_get.specs.Rooms.{IsRoomy}
 use Rattle.mq_core.proofs.ForceLaws.{forced_view, frozen_view, tied_downed, stops_at}
 use Rattle.mq_agents.specs.Ends.{halt_of, stopped_agent}
 use Rattle.mq_agents.specs.Written.{IsAside, IsWhole, IsWritten, Lacks, Writes, WantsNone, drawn, drawn_if, drawn_need, is_live, agent_of, stop_of, with_senders, with_receivers, note_record, noted_change}

@@ -1,5 +1,5 @@
 -- Rows that go behind a record, and the room of it.
-use Rattle.std.specs.Prelude.{◌≡◌, ℕ, ◌+◌, ◌≤◌, Bool, false, List, [], ◌∷◌, length, Option, Some, None, Result, Ok, Err, filter, is_some, not}
+use Rattle.std.specs.Prelude.{◌≡◌, ℕ, ◌≤◌, Bool, false, List, [], ◌∷◌, length, Option, Some, None, Result, Ok, Err, filter, is_some, not}
 use Rattle.std.specs.Str.{bytes_eq}
 use Rattle.mq_message.specs.declared.place.Holder.TheVariants as holders
 use Rattle.mq_core.specs.declared.parts.ChannelEnds.{ChannelEnds}
@@ -19,13 +19,7 @@ use Rattle.mq_core.specs.Views.{PartsValue}
 use Rattle.mq_core.specs.Placing.{with_states}
 use Rattle.mq_core.specs.Forced.{KeepsSeats}
 use Rattle.mq_core.specs.Writes.{FitsRecord}
-
--- there is room for a record of so many bytes, and nothing else has changed
-pub record IsRoomy (need : ℕ) (x y : PartsValue) : Type 0 where
-  pub same : y ≡ record x { log = record x.log { room = y.log.room }; body = y.body }
-  pub more : x.log.room ≤ y.log.room
-  pub log : x.log.reserved + need ≤ y.log.room
-  pub body : x.body.room + length x.body.bytes + need ≤ y.body.room + length y.body.bytes
+use Rattle.mq_get.specs.Rooms.{IsRoomy}
 
 -- a message is there, and lasts
 abbrev pub lasts : Option Message → Bool

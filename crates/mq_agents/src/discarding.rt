@@ -1,5 +1,5 @@
 //! A rule of the dead-letter handler removes a row.
-ghost use Rattle.std.specs.Prelude.{◌≡◌, ◌+◌, ◌≤◌, ◌∷◌, [], true, false, Some, length, OnOk, OnErr, IfOk};
+ghost use Rattle.std.specs.Prelude.{◌≡◌, ◌+◌, ◌≤◌, ◌∷◌, [], true, false, Some, length, IfOk};
 ghost use Rattle.mq_calls.specs.declared.deltas.Did.TheVariants as did;
 ghost use Rattle.mq_calls.specs.declared.deltas.Why.TheVariants as whys;
 ghost use Rattle.mq_core.specs.declared.parts.StoppedWrite.TheVariants as writes;
@@ -8,9 +8,9 @@ ghost use Rattle.mq_calls.specs.declared.records.LogRecord.TheVariants as record
 ghost use Rattle.mq_calls.specs.Words.{MeetsOrWants, stored};
 ghost use Rattle.mq_spec_manager.specs.Agents.{IsUp, HasFreeRow, row_with, discard};
 ghost use Rattle.mq_core.specs.Views.{plain_of};
-ghost use Rattle.mq_core.specs.Forced.{IsForced, HasMoreRoom};
+ghost use Rattle.mq_core.specs.Forced.{IsForced};
 ghost use Rattle.mq_agents.specs.Ends.{by_agent};
-ghost use Rattle.mq_agents.specs.Removing.{IsRoomy, lasts, removed_one};
+ghost use Rattle.mq_agents.specs.Removing.{lasts, removed_one};
 ghost use Rattle.mq_core.specs.Values.{manager_of, WritesLog};
 
 use crate::hardening::{agent_stop, go_down};
@@ -18,25 +18,10 @@ use mq_base::{Items, NoMemory, QName};
 use mq_calls::{AgentStop, Did, Remove, Why};
 use mq_core::{Core, Parts, StoppedWrite};
 use mq_disk::{Disk, Stop};
+use mq_get::make_record_room;
 use mq_message::Ident;
 use mq_record::unit_front;
 use mq_unit::Effects;
-
-/// Takes memory for the body of a record of so many bytes, and for its frame in the log.
-pub(crate) fn make_record_room<D: Disk>(parts: &mut Parts<D>, need: u64) -> Result<(), NoMemory>
-    ensures ok { OnOk result (IsRoomy need parts.old parts.new) }
-    ensures err { OnErr result (HasMoreRoom parts.old parts.new) }
-{
-    match parts.log.room(need) {
-        Ok(()) => {}
-        Err(_) => return Err(NoMemory),
-    }
-    parts.body.clear();
-    match parts.body.reserve(need as usize) {
-        Ok(()) => Ok(()),
-        Err(_) => Err(NoMemory),
-    }
-}
 
 /// Whether the row of an ident lasts.
 fn lasts<D: Disk>(parts: &Parts<D>, queue: &QName, ident: &Ident) -> bool

@@ -61,7 +61,7 @@ pub fn go_down<D: Disk>(parts: &mut Parts<D>, write: StoppedWrite)
 }
 
 /// What stopped a write; none where there was no memory.
-pub(crate) fn stop_of(unwritten: Unwritten) -> Option<Stop>
+pub fn stop_of(unwritten: Unwritten) -> Option<Stop>
     ensures { result ≡ stop_of unwritten }
 {
     match unwritten {
@@ -71,7 +71,7 @@ pub(crate) fn stop_of(unwritten: Unwritten) -> Option<Stop>
 }
 
 /// Why a record was not written, as channel ends are told.
-pub(crate) fn agent_of(unwritten: Unwritten) -> AgentStop
+pub fn agent_of(unwritten: Unwritten) -> AgentStop
     ensures { result ≡ agent_of unwritten }
 {
     match unwritten {

@@ -16,8 +16,8 @@ pub use batches::hold_batch;
 pub use discarding::discard;
 pub use expiring::expire;
 pub use hardening::{
-    Unwritten, agent_stop, aside_for, go_down, harden_bound, harden_closed, harden_last_received,
-    harden_last_sent, harden_session,
+    Unwritten, agent_of, agent_stop, aside_for, go_down, harden_bound, harden_closed,
+    harden_last_received, harden_last_sent, harden_session, stop_of,
 };
 pub use preparing::prepare;
 pub use reading::{Hardened, batch_row, defs, is_up, kept, moment, next_row, stock};

@@ -16,12 +16,12 @@ ghost use Rattle.mq_agents.specs.Written.{Writes, with_senders};
 ghost use Rattle.mq_agents.specs.Removing.{Doubts, ident_put, IsDoubtOf, IsFilled, doubt_record, without_one};
 ghost use Rattle.mq_core.specs.Values.{manager_of, WritesLog};
 
-use crate::discarding::make_record_room;
 use crate::hardening::{Unwritten, agent_of, aside_log, go_down, kept_sender, sender_now, stop_of};
 use mq_base::{ChName, Items, NoMemory};
 use mq_calls::{AgentStop, Batch, Did, PrepareFault, SenderSide};
 use mq_core::{Core, Parts, StoppedWrite};
 use mq_disk::Disk;
+use mq_get::make_record_room;
 use mq_message::Ident;
 use mq_record::{Buffer, prepared_front};
 use mq_sides::{KeptSender, batch_of, drop_side, swap_side, undo_side};

@@ -24,6 +24,39 @@ pub fn first_moment(scenario: &Scenario, start: u64) -> u64
     }
 }
 
+/// The disk under the log of these parts; each other part is dropped by one call.
+fn disk_in<D: Disk>(parts: Parts<D>) -> D
+    ensures { D.faults result ≡ parts.log.faults }
+{
+    let Parts {
+        alloc: _,
+        number: _,
+        name: _,
+        mode,
+        defs,
+        queues,
+        live,
+        ends,
+        moment: _,
+        incarnation: _,
+        idents: _,
+        log,
+        body,
+    } = parts;
+    drop(mode);
+    drop(defs);
+    drop(queues);
+    drop(live);
+    drop(ends);
+    drop(body);
+    let Cutter {
+        inner,
+        armed: _,
+        stopped: _,
+    } = log.end();
+    inner
+}
+
 /// The disk of a manager. It takes no memory.
 fn disk_of<D: Disk>(manager: Manager<D>) -> D
     ensures { D.faults result ≡ manager.faults }
@@ -31,30 +64,11 @@ fn disk_of<D: Disk>(manager: Manager<D>) -> D
     let Manager { core, read: _ } = manager;
     let Core {
         parts,
-        effects: _,
+        effects,
         stopped: _,
     } = core;
-    let Parts {
-        alloc: _,
-        number: _,
-        name: _,
-        mode: _,
-        defs: _,
-        queues: _,
-        live: _,
-        ends: _,
-        moment: _,
-        incarnation: _,
-        idents: _,
-        log,
-        body: _,
-    } = parts;
-    let Cutter {
-        inner,
-        armed: _,
-        stopped: _,
-    } = log.end();
-    inner
+    drop(effects);
+    disk_in(parts)
 }
 
 /// One disk more, in room that was taken.

@@ -10,7 +10,8 @@ use mq_calls::Messages;
 use mq_own::{ChannelEnd, EndKind, Own, ReceiverEnd, SenderEnd};
 use std::alloc::Global;
 
-fn cable_of(end: &ChannelEnd) -> u16
+/// The place of its cable in the scenario, from 0.
+pub fn cable_of(end: &ChannelEnd) -> u16
     ensures { result ≡ cable_of end.now }
 {
     match &end.kind {
@@ -43,8 +44,8 @@ pub fn end_in(ends: &Items<ChannelEnd>, cable: u16) -> Option<&ChannelEnd>
     }
 }
 
-/// A sender's end as it stands.
-fn as_sender(end: &ChannelEnd) -> Option<SenderEnd>
+/// A sender's end as it stands; none of a receiver's. It takes no memory.
+pub fn as_sender(end: &ChannelEnd) -> Option<SenderEnd>
     ensures { result ≡ as_sender (Some end.now) }
 {
     match &end.kind {

@@ -3,4 +3,4 @@
 
 mod ends;
 
-pub use ends::{end_in, lift_receiver, sender_of, set_end};
+pub use ends::{as_sender, cable_of, end_in, lift_receiver, sender_of, set_end};

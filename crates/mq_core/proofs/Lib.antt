@@ -1,5 +1,6 @@
 pub mod SeatLaws
 pub mod MeetLaws
+pub mod PartLaws
 pub mod PlaceLaws
 pub mod ForceLaws
 pub mod PutLaws

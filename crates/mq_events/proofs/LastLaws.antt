@@ -1,8 +1,9 @@
 -- The last entry, and trigger turns one after the other.
-use Rattle.std.proofs.Common.{◌≡◌, suc, ◌-◌, refl, sym, ap, ◌∙◌, List, [], ◌∷◌, length, arith}
+use Rattle.std.proofs.Common.{◌≡◌, suc, ◌-◌, refl, sym, ap, ◌∙◌, List, [], ◌∷◌, ◌++◌, length, arith}
 use Rattle.std.specs.Prelude.{Option, Some, None, slice_get}
-use Rattle.mq_spec_node.specs.Terms.{Actor, Entry}
-use Rattle.mq_events.specs.States.{last_actor}
+use Rattle.mq_spec_node.specs.Terms.{Actor, Call, Entry, History}
+use Rattle.mq_events.specs.Events.{Adds}
+use Rattle.mq_events.specs.States.{NodeState, last_actor, last_entry}
 
 one_less : (x y : Entry) (es : List Entry) → slice_get (y ∷ es) (length (y ∷ es) - 1) ≡ slice_get (x ∷ y ∷ es) (length (x ∷ y ∷ es) - 1)
 one_less x y es =
@@ -27,3 +28,16 @@ last_some es e h = some_actor None es e h
 
 pub last_none : (es : List Entry) → slice_get es (length es - 1) ≡ None → last_actor None es ≡ None
 last_none es h = no_last None es h
+
+pub last_is : (es : List Entry) → slice_get es (length es - 1) ≡ last_entry es
+last_is [] = refl
+last_is (x ∷ []) = refl
+last_is (x ∷ y ∷ es) = sym (one_less x y es) ∙ last_is (y ∷ es)
+
+behind : (es : List Entry) (e : Entry) → last_entry (es ++ e ∷ []) ≡ Some e
+behind [] e = refl
+behind (x ∷ []) e = refl
+behind (x ∷ y ∷ es) e = behind (y ∷ es) e
+
+pub adds_last : (who : Actor) (what : Call) (e : Entry) (old new : NodeState) → Adds who what e old new → last_entry new.history.entries ≡ Some e
+adds_last who what e old new a = ap (λ (h : History). last_entry h.entries) a.grows.history ∙ behind old.history.entries e

@@ -43,6 +43,12 @@ value_of s = record { given = s.given; history = s.history; node = node_in s; st
 abbrev pub IsKept : NodeState → Type 0
 IsKept s = IsReplayed (value_of s)
 
+-- the last of these
+abbrev pub last_entry : List Entry → Option Entry
+last_entry [] = None
+last_entry (e ∷ []) = Some e
+last_entry (e ∷ f ∷ es) = last_entry (f ∷ es)
+
 -- the actor of the last entry
 abbrev pub last_actor : Option Actor → List Entry → Option Actor
 last_actor last [] = last

@@ -1,10 +1,19 @@
 //! The entries of a node's history, with the memory for more.
-ghost use Rattle.std.specs.Prelude.{◌≡◌, ◌<◌, ◌≤◌, ◌+◌, ◌-◌, ◌++◌, ◌∷◌, [], OnOk, length};
+ghost use Rattle.std.specs.Prelude.{◌≡◌, ◌<◌, ◌≤◌, ◌+◌, ◌-◌, ◌++◌, ◌∷◌, [], OnOk, length, option_copied};
+ghost use Rattle.mq_events.specs.States.{last_entry};
 
 use mq_base::NoMemory;
 use mq_history::Entry;
 use std::alloc::Global;
 use std::marker::Model;
+
+/// The last of these.
+#[tactic(auto, using(crate::proofs::LastLaws::last_is))]
+pub fn last_entry(entries: &[Entry]) -> Option<&Entry>
+    ensures { option_copied result ≡ last_entry entries.now }
+{
+    entries.last()
+}
 
 /// The entries of a history. Of the memory for more, some is set aside: it is no room.
 #[derive(Drop)]

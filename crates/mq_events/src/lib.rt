@@ -14,7 +14,7 @@ mod state;
 
 pub use calling::{mqback, mqclose, mqcmit, mqconn, mqdisc, mqget, mqopen, mqput, mqput1, trigger};
 pub use counting::has_few_rows;
-pub use entries::Entries;
+pub use entries::{Entries, last_entry};
 pub use node::Node;
 pub use obeying::obey;
 pub use outcome::{Obeyed, Outcome, Told};

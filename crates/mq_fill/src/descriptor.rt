@@ -1,7 +1,7 @@
 //! The descriptor that a manager fills in at a put (IBM MQ reference, "MQMD").
 ghost use Rattle.std.specs.List.{list_all};
 ghost use Rattle.std.specs.Prelude.{◌≡◌, ◌==◌, ◌+◌, ◌≤◌, ◌<◌, ◌^◌, ◌-◌, ℕ, List, IfSome};
-ghost use Rattle.mq_spec_manager.specs.Words.{id_or, set_or, filled_by, filled, deadline_of, message_put, queue_at, dest_at, last_moment};
+ghost use Rattle.mq_spec_manager.specs.Words.{id_or, set_or, filled_by, filled, deadline_of, message_put, last_moment};
 ghost use Rattle.mq_objects.specs.Names.{queue_of};
 ghost use Rattle.mq_fill.specs.Drafts.{message_of};
 
@@ -9,6 +9,7 @@ use crate::defaults::{
     default_persistent, default_priority, first_on, persistence_or, priority_or,
 };
 use crate::replies::{Replies, replies_to};
+use crate::routes::dest_at;
 use mq_base::QName;
 use mq_calls::Appl;
 use mq_clock::put_stamp;
@@ -93,19 +94,6 @@ fn filled(
     filled.put_date = date;
     filled.put_time = time;
     filled
-}
-
-/// The names with which a message goes on.
-fn dest_at(end: &RouteEnd) -> Option<Dest>
-    ensures { result ≡ dest_at end.now }
-{
-    match end {
-        RouteEnd::Local(_) => None,
-        RouteEnd::Via { rq, rqm, .. } => Some(Dest {
-            queue: *rq,
-            qmgr: *rqm,
-        }),
-    }
 }
 
 /// A message that is put, all but its body.

@@ -98,8 +98,12 @@ pub(crate) fn leaving_need(leaving: &Leaving) -> u64
     if lasting == 0 { 0 } else { 14 + 65 * lasting }
 }
 
-/// Takes memory for records of so many bytes.
-fn make_record_room<D: Disk>(parts: &mut Parts<D>, need: u64) -> Result<(), NoMemory>
+/// Takes memory for records of so many bytes, and for their frames in the log.
+///
+/// # Errors
+///
+/// No memory; nothing has changed but what has room.
+pub fn make_record_room<D: Disk>(parts: &mut Parts<D>, need: u64) -> Result<(), NoMemory>
     ensures ok { OnOk result (IsRoomy need parts.old parts.new) }
     ensures err { OnErr result (HasMoreRoom parts.old parts.new) }
 {

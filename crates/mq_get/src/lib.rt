@@ -12,5 +12,5 @@ mod takes;
 
 pub use finding::{Hit, Plan};
 pub use getting::{drop_expired, mqget};
-pub use leaving::Leaving;
+pub use leaving::{Leaving, make_record_room};
 pub use refusals::Aim;

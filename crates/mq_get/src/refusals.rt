@@ -3,7 +3,7 @@ ghost use Rattle.std.specs.Prelude.{◌≡◌, ℕ, ◌+◌, ◌<◌, ◌≤◌,
 ghost use Rattle.std.specs.List.{list_any};
 ghost use Rattle.mq_queue.specs.declared.row.Row.{Row};
 ghost use Rattle.mq_calls.specs.Words.{is_full, is_up, refusal};
-ghost use Rattle.mq_spec_manager.specs.Words.{sync_full, is_get_disabled, queue_at, mqget, expired_need, taking_need, found_need, scan_need, get_tests};
+ghost use Rattle.mq_spec_manager.specs.Words.{sync_full, is_get_disabled, mqget, expired_need, taking_need, found_need, scan_need, get_tests};
 ghost use Rattle.mq_spec_manager.specs.Get.{is_disabled_at};
 ghost use Rattle.mq_core.specs.Views.{plain_of};
 ghost use Rattle.mq_core.specs.Ties.{Tied};
@@ -17,11 +17,12 @@ use mq_calls::{Get, Handle, Hconn, Hobj};
 use mq_codes::Reason;
 use mq_core::{Parts, is_input};
 use mq_disk::Disk;
+use mq_fill::queue_at;
 use mq_handles::Seat;
 use mq_message::Place;
 use mq_objects::{Defs, Object};
 use mq_queue::Row;
-use mq_resolve::{PathStep, RouteEnd};
+use mq_resolve::PathStep;
 
 /// Where a get looks.
 #[derive(Clone, Copy)]
@@ -30,15 +31,6 @@ pub struct Aim {
     /// The number of its handle, and the handle's cursor.
     pub handle: u64,
     pub cursor: Option<Place>,
-}
-
-fn queue_at(end: &RouteEnd) -> QName
-    ensures { result ≡ queue_at end.now }
-{
-    match end {
-        RouteEnd::Local(queue) => *queue,
-        RouteEnd::Via { xq, .. } => *xq,
-    }
 }
 
 fn aim_of(handle: &Handle) -> Aim

@@ -1,7 +1,7 @@
 //! Where a message is put by a route: what refuses it at the end of the route, and how it stands there.
 ghost use Rattle.std.specs.Prelude.{◌≡◌, ◌+◌, ◌<◌, ◌^◌, None, nat_le};
 ghost use Rattle.mq_calls.specs.Words.{depth, refusal};
-ghost use Rattle.mq_spec_manager.specs.Words.{dest_at, is_unfit, output_only, queue_at};
+ghost use Rattle.mq_spec_manager.specs.Words.{is_unfit, output_only, queue_at};
 ghost use Rattle.mq_spec_manager.specs.Agents.{route_tests};
 ghost use Rattle.mq_core.specs.Views.{plain_of};
 ghost use Rattle.mq_core.specs.Ties.{Tied};
@@ -11,32 +11,8 @@ use mq_base::QName;
 use mq_codes::Reason;
 use mq_core::Parts;
 use mq_disk::Disk;
-use mq_fill::{is_inhibited, max_depth, max_length};
-use mq_message::Dest;
+use mq_fill::{is_inhibited, max_depth, max_length, queue_at};
 use mq_resolve::{PathStep, RouteEnd};
-
-/// The local queue on which a message stands at the end of a route.
-pub fn queue_at(end: &RouteEnd) -> QName
-    ensures { result ≡ queue_at end.now }
-{
-    match end {
-        RouteEnd::Local(queue) => *queue,
-        RouteEnd::Via { xq, .. } => *xq,
-    }
-}
-
-/// The names that a message has there; none on an ordinary queue.
-pub fn dest_at(end: &RouteEnd) -> Option<Dest>
-    ensures { result ≡ dest_at end.now }
-{
-    match end {
-        RouteEnd::Local(_) => None,
-        RouteEnd::Via { rq, rqm, .. } => Some(Dest {
-            queue: *rq,
-            qmgr: *rqm,
-        }),
-    }
-}
 
 /// The route ends at a transmission queue that is named as an ordinary one.
 fn is_unfit_output<D: Disk>(parts: &Parts<D>, end: &RouteEnd) -> bool

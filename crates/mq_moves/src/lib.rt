@@ -5,5 +5,5 @@ mod landing;
 mod moving;
 mod rules;
 
-pub use landing::{dest_at, queue_at, refused_at, refused_by};
+pub use landing::{refused_at, refused_by};
 pub use rules::{Moving, move_row};

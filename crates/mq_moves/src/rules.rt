@@ -10,13 +10,14 @@ ghost use Rattle.mq_agents.specs.Ends.{by_place};
 ghost use Rattle.mq_moves.specs.Landed.{Moves, at_end, message_moved};
 ghost use Rattle.mq_core.specs.Values.{manager_of, WritesLog};
 
-use crate::landing::{dest_at, queue_at, refused_at};
+use crate::landing::refused_at;
 use crate::moving::move_message;
 use mq_base::{Items, NoMemory, QName};
 use mq_calls::{AgentStop, PlaceFault};
 use mq_codes::Reason;
 use mq_core::{Core, Parts, put_bytes};
 use mq_disk::Disk;
+use mq_fill::{dest_at, queue_at};
 use mq_heads::dlh_of;
 use mq_message::{Bytes, Dest, Ident, Md, Message};
 use mq_resolve::{RouteEnd, resolve};

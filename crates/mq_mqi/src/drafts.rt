@@ -1,7 +1,7 @@
 //! The refusals of MQPUT and MQPUT1 in their order.
 ghost use Rattle.std.specs.Prelude.{◌≡◌, ◌+◌, ◌<◌, ◌≤◌, ◌^◌, ℕ, List, None, length, IfSome, ◌-◌, true};
 ghost use Rattle.mq_calls.specs.Words.{Message, depth, is_full, is_up, put_bytes, refusal, route_size};
-ghost use Rattle.mq_spec_manager.specs.Words.{is_bad_expiry, sync_full, put_need, log_full, next_ident, new_message, output_only, is_unfit, mqput, mqput1, is_high, queue_at};
+ghost use Rattle.mq_spec_manager.specs.Words.{is_bad_expiry, sync_full, put_need, log_full, next_ident, new_message, output_only, is_unfit, mqput, mqput1, is_high};
 ghost use Rattle.mq_fill.specs.Drafts.{message_of};
 ghost use Rattle.mq_core.specs.Views.{plain_of};
 ghost use Rattle.mq_core.specs.Ties.{Tied};
@@ -12,7 +12,7 @@ use mq_calls::{Hconn, Hobj};
 use mq_codes::Reason;
 use mq_core::Parts;
 use mq_disk::Disk;
-use mq_fill::{Draft, is_blank, is_inhibited, make_draft, max_depth, max_length};
+use mq_fill::{Draft, is_blank, is_inhibited, make_draft, max_depth, max_length, queue_at};
 use mq_handles::Seat;
 use mq_message::{Dest, Ident, Md};
 use mq_resolve::{PathStep, RouteEnd, resolve};
@@ -31,16 +31,6 @@ fn is_bad_expiry(expiry: i32) -> bool
     ensures { result ≡ is_bad_expiry expiry }
 {
     expiry == 0 || expiry < -1
-}
-
-/// The queue on which the row is put.
-fn queue_at(end: &RouteEnd) -> QName
-    ensures { result ≡ queue_at end.now }
-{
-    match end {
-        RouteEnd::Local(queue) => *queue,
-        RouteEnd::Via { xq, .. } => *xq,
-    }
 }
 
 /// What the two names of a route take in a record.

@@ -1,6 +1,6 @@
--- Whether a row of an ident stands, and the loop over all managers.
-use Rattle.std.proofs.Common.{ℕ, zero, suc, ◌≡◌, ◌+◌, ◌<◌, Bool, true, false, List, [], ◌∷◌, ◌++◌, Option, Some, None, refl, ap, sym, ◌∙◌, arith, length, drop, take}
-use Rattle.std.specs.Prelude.{find, map, slice_get, slice_set, is_some, ◌||◌, ◌==◌, ◌&&◌, if◌then◌else◌}
+-- Whether a row of an ident stands.
+use Rattle.std.proofs.Common.{ℕ, ◌≡◌, Bool, true, false, List, [], ◌∷◌, ◌++◌, Option, Some, None, refl, ap, ◌∙◌, arith}
+use Rattle.std.specs.Prelude.{find, map, is_some, ◌||◌, ◌==◌, ◌&&◌, if◌then◌else◌}
 use Rattle.std.specs.List.{list_any, flat_map}
 use Rattle.std.proofs.lemmas.Bool.Decides.{nat_tests}
 use Rattle.mq_queue.specs.declared.row.Row.{Row}
@@ -39,28 +39,3 @@ placed ident (s ∷ ss) =
     either ident ss (find (has_ident ident) s.rows)
     ∙ ap (λ (b : Bool). is_some (find (has_ident ident) s.rows) || b) (placed ident ss)
     ∙ found_in ident s.rows (flat_map (λ (s : Shelf). map (λ (r : Row). r.message.ident) s.rows) ss)
-
--- The loop over all places of a list.
-mapped_suc : {X : Type 0} (f : X → X) (xs : List X) (i : ℕ) (old : X) → i < length xs → slice_get (map f (take i xs) ++ drop i xs) i ≡ Some old → slice_set (map f (take i xs) ++ drop i xs) i (f old) ≡ map f (take (suc i) xs) ++ drop (suc i) xs
-mapped_suc f [] i old lt e = absurd (omega (arith, lt))
-mapped_suc f (x ∷ xs) zero old lt e = grind (arith)
-mapped_suc f (x ∷ xs) (suc i) old lt e = grind (arith, mapped_suc f xs i old)
-
-add_one : (i : ℕ) → suc i ≡ i + 1
-add_one i = omega arith
-
-pub mapped_next : {X : Type 0} (f : X → X) (xs ys : List X) (i : ℕ) (old new : X) → ys ≡ map f (take i xs) ++ drop i xs → i < length xs → slice_get ys i ≡ Some old → new ≡ f old → slice_set ys i new ≡ map f (take (i + 1) xs) ++ drop (i + 1) xs
-mapped_next {X} f xs ys i old new so_far lt e is =
-    ap (slice_set ys i) is ∙ ap (λ (l : List X). slice_set l i (f old)) so_far
-    ∙ mapped_suc f xs i old lt (ap (λ (l : List X). slice_get l i) (sym so_far) ∙ e)
-    ∙ ap (λ (n : ℕ). map f (take n xs) ++ drop n xs) (add_one i)
-
-pub mapped_all : {X : Type 0} (f : X → X) (xs : List X) → map f (take (length xs) xs) ++ drop (length xs) xs ≡ map f xs
-mapped_all f [] = refl
-mapped_all {X} f (x ∷ xs) = ap (λ (l : List X). f x ∷ l) (mapped_all f xs)
-
-pub mapped_long : {X : Type 0} (f : X → X) (xs : List X) (i : ℕ) → length (map f (take i xs) ++ drop i xs) ≡ length xs
-mapped_long f [] zero = refl
-mapped_long f [] (suc i) = refl
-mapped_long f (x ∷ xs) zero = refl
-mapped_long f (x ∷ xs) (suc i) = ap (λ (n : ℕ). suc n) (mapped_long f xs i)

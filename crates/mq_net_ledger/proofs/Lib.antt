@@ -1,7 +1,6 @@
 pub mod AnswerLaws
 pub mod ArrivalLaws
 pub mod HeadLaws
-pub mod LetterLaws
 pub mod OpenLaws
 pub mod PostLaws
 pub mod SpotLaws

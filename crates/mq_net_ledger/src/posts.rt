@@ -1,16 +1,16 @@
 //! What a call places, read from the ledger before anything changes.
 ghost use Rattle.std.specs.Prelude.{◌≡◌, IfOk, Some};
-ghost use Rattle.mq_spec_manager.specs.Put.{queue_at, dest_at};
 ghost use Rattle.mq_spec_manager.specs.Landing.{names_of};
 ghost use Rattle.mq_spec_manager.specs.Moves.{bare_if};
 ghost use Rattle.mq_spec_network.specs.Ledger.{connection_of, resolved_at, row_in, places_at};
 ghost use Rattle.mq_objects.specs.Names.{local_of};
 ghost use Rattle.mq_net_ledger.specs.Posts.{put_by_of, put_of, put1_by_of, put1_of, routed, moved_of, received_of, trigger_of};
 
-use crate::messages::{bare_if, dead_message, names_of};
+use crate::messages::bare_if;
 use mq_base::{ChName, NoMemory, QName};
 use mq_calls::{Hconn, Hobj};
 use mq_codes::Reason;
+use mq_fill::{dead_message, dest_at, names_of, queue_at};
 use mq_message::{Bytes, Dest, Ident, Md, Message};
 use mq_net_books::{Books, Caller};
 use mq_objects::LocalQueue;
@@ -30,29 +30,6 @@ pub struct Posted {
 pub struct Arrival {
     pub message: Message,
     pub dead: Option<Reason>,
-}
-
-/// The queue on which a row is put.
-fn queue_at(end: &RouteEnd) -> QName
-    ensures { result ≡ queue_at end.now }
-{
-    match end {
-        RouteEnd::Local(queue) => *queue,
-        RouteEnd::Via { xq, .. } => *xq,
-    }
-}
-
-/// The names that a row takes along on a transmission queue.
-fn dest_at(end: &RouteEnd) -> Option<Dest>
-    ensures { result ≡ dest_at end.now }
-{
-    match end {
-        RouteEnd::Local(_) => None,
-        RouteEnd::Via { rq, rqm, .. } => Some(Dest {
-            queue: *rq,
-            qmgr: *rqm,
-        }),
-    }
 }
 
 /// A message as a connection puts it by a route.

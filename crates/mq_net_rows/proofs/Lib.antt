@@ -2,5 +2,5 @@ mod KeyLaws
 mod LaneLaws
 mod QueueLaws
 mod SeatLaws
-mod StoreLaws
+pub mod StoreLaws
 pub mod RollLaws

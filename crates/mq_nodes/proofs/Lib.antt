@@ -9,3 +9,4 @@ pub mod TurnLaws
 pub mod StepLaws
 pub mod CarriedLaws
 pub mod PhasedLaws
+pub mod TextLaws

@@ -1,5 +1,5 @@
 -- The commands of a scenario, each of which a node can be given.
-use Rattle.std.specs.Prelude.{ℕ, All}
+use Rattle.std.specs.Prelude.{All}
 use Rattle.mq_history.specs.declared.scenario.Scenario.{Scenario}
 use Rattle.mq_history.specs.declared.scenario.ScriptPart.{ScriptPart}
 use Rattle.mq_history.specs.declared.scenario.Section.{Section}

@@ -8,6 +8,7 @@ ghost use Rattle.mq_events.specs.States.{node_in};
 ghost use Rattle.mq_operate.specs.Places.{IsPlace, IsSeatAt, defined_sends, receives_for, seat_in, sends_for};
 
 use mq_base::{ChName, Items, NoMemory};
+use mq_cabled::{as_sender, cable_of};
 use mq_disk::Disk;
 use mq_events::NodeParts;
 use mq_manager::Manager;
@@ -62,20 +63,6 @@ fn receiver_place(ends: &[ChannelEnd], channel: &ChName) -> Option<usize>
     ensures { result ≡ position (receives_for channel.now) ends.now }
 {
     ends.iter().position(|end| receives_for(channel, end))
-}
-
-fn as_sender(end: &ChannelEnd) -> Option<SenderEnd>
-    ensures { result ≡ nodes.as_sender (Some end.now) }
-{
-    match &end.kind {
-        EndKind::Sends(end) => Some(SenderEnd {
-            cable: end.cable,
-            channel: end.channel,
-            partner: end.partner,
-            machine: end.machine,
-        }),
-        EndKind::Receives(_) => None,
-    }
 }
 
 /// The sender's end of a channel, as it stands. It takes no memory.
@@ -164,15 +151,6 @@ fn sender_here<D: Disk>(parts: &NodeParts<D>, channel: &ChName) -> Place
     match sender_in(parts, channel) {
         None => Place::Absent,
         Some(end) => Place::Sends(end),
-    }
-}
-
-fn cable_of(end: &ChannelEnd) -> u16
-    ensures { result ≡ cable_of end.now }
-{
-    match &end.kind {
-        EndKind::Sends(end) => end.cable,
-        EndKind::Receives(end) => end.cable,
     }
 }
 

@@ -3,7 +3,6 @@ ghost use Rattle.std.specs.Prelude.{◌≡◌, Some, false, true, option_map};
 ghost use Rattle.mq_calls.specs.declared.agents.Note.TheVariants as notes;
 ghost use Rattle.mq_calls.specs.declared.choices.Choice.TheVariants as choices;
 ghost use Rattle.mq_sender.specs.States.{is_running, kept_of, started, stopped};
-ghost use Rattle.mq_sync.specs.Settlement.{is_commit};
 ghost use Rattle.mq_calls.specs.Words.{in_doubt_of, sender_data};
 ghost use Rattle.mq_spec_manager.specs.Agents.{CanHarden, IsSenderHere, IsUp, harden, release_batch, seize, unit_of};
 ghost use Rattle.mq_spec_node.specs.Words.{is_bad_number, is_in_doubt, limits_here, operated, parts_of, reset_end, resolve_end, start_end, start_seized, stop_end};
@@ -14,7 +13,7 @@ ghost use Rattle.mq_operate.specs.Senders.{SoughtOr, own_if, unset as unset_by};
 ghost use Rattle.mq_operate.specs.Works.{Works};
 
 use crate::asking::{has_batch, is_in_doubt, kept_here, unit_in_doubt};
-use crate::working::{Worked, keep_end, keep_own, refused};
+use crate::working::{Worked, keep_own, refused};
 use mq_base::{ChName, NoMemory};
 use mq_calls::{Note, SeizeFault};
 use mq_disk::Disk;
@@ -24,7 +23,7 @@ use mq_manager::Manager;
 use mq_own::{ChannelEnd, EndKind, SenderEnd};
 use mq_sender::{Kept, Limits};
 use mq_sync::{End, Settle, Unit};
-use mq_turns::{hardened, leave_in, nothing_done, ran, released};
+use mq_turns::{hardened, is_commit, keep_end, leave_in, nothing_done, ran, released};
 use std::alloc::Global;
 
 /// A sender opens its transmission queue, or is refused.
@@ -318,15 +317,6 @@ pub fn reset_sender<D: Disk>(
             };
             note_end(parts, end, &note)
         }
-    }
-}
-
-fn is_commit(settle: Settle) -> bool
-    ensures { result ≡ is_commit settle }
-{
-    match settle {
-        Settle::Commit => true,
-        Settle::Backout => false,
     }
 }
 

@@ -1,17 +1,15 @@
 //! What a command came to at a node, and its entry.
 ghost use Rattle.std.specs.Prelude.{◌≡◌, ◌<◌, ◌^◌, [], Some};
 ghost use Rattle.mq_calls.specs.declared.choices.Choice.TheVariants as choices;
-ghost use Rattle.mq_spec_node.specs.Words.{op_stopped, with_end};
+ghost use Rattle.mq_spec_node.specs.Words.{op_stopped};
 ghost use Rattle.mq_events.specs.States.{told};
 ghost use Rattle.mq_turns.specs.Turns.{own_by};
 ghost use Rattle.mq_operate.specs.Works.{acted_by, answer_by, call_of, outcome_by, reply_by};
 
-use mq_cabled::set_end;
 use mq_calls::Choice;
 use mq_disk::{Disk, Stop};
 use mq_events::{NodeParts, Outcome, Told};
 use mq_history::{Act, Acted, Actor, Call, OpRefusal, Reply};
-use mq_own::ChannelEnd;
 use mq_sc_parse::{Command, Op};
 use mq_turns::{has_run, nothing_done};
 use std::alloc::Global;
@@ -95,17 +93,7 @@ pub fn tell_worked<D: Disk>(parts: &mut NodeParts<D>, actor: Actor, op: Op, work
     );
 }
 
-/// The end after it, and handlers that have forgotten rows that went, where all was done. It takes no memory.
-pub fn keep_end<D: Disk>(parts: &mut NodeParts<D>, told: &Told, end: ChannelEnd)
-    ensures { parts.new ≡ record parts.old { own = own_by told.now.choice told.now.delta (with_end end parts.old.own) parts.old.own } }
-{
-    if has_run(told) {
-        set_end(&mut parts.own, end);
-        parts.own.forget_rows(told.delta.as_slice());
-    }
-}
-
-/// The same, where no end is another.
+/// Handlers that have forgotten rows that went, where all was done and no end is another. It takes no memory.
 pub fn keep_own<D: Disk>(parts: &mut NodeParts<D>, told: &Told)
     ensures { parts.new ≡ record parts.old { own = own_by told.now.choice told.now.delta parts.old.own parts.old.own } }
 {

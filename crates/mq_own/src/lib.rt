@@ -8,5 +8,5 @@ mod parts;
 
 pub use ends::{ChannelEnd, EndKind, ReceiverEnd, SenderEnd};
 pub use handlers::{Handler, Tried};
-pub use own::Own;
+pub use own::{Own, forget_all};
 pub use parts::{Monitor, Script};

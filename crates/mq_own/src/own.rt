@@ -67,8 +67,8 @@ fn rest_ends(ends: &mut Items<ChannelEnd>)
     }
 }
 
-/// The handlers forget all their tries.
-fn forget_all(handlers: &mut Items<Handler>)
+/// The handlers forget all their tries. It takes no memory.
+pub fn forget_all(handlers: &mut Items<Handler>)
     ensures { handlers.new ≡ map forgetting_all handlers.old }
 {
     for at in 0..handlers.len() {

@@ -1,15 +1,15 @@
 //! What a manager is built of from an image.
-ghost use Rattle.std.specs.Prelude.{IfOk};
+ghost use Rattle.std.specs.Prelude.{◌≡◌, IfOk, map};
 ghost use Rattle.mq_calls.specs.Recovery.{IsImage};
-ghost use Rattle.mq_rebuild.specs.Rebuilt.{IsBuilt};
+ghost use Rattle.mq_rebuild.specs.Rebuilt.{AreOnce, IsBuilt, IsRead, state_on};
 
 use crate::objects::defs_of;
 use crate::shelves::queues_of;
-use crate::sides::{receivers_of, rows_for, seats_for, senders_of};
+use crate::sides::{Sides, sides_of};
 use mq_base::{Items, NoMemory};
-use mq_calls::Image;
+use mq_calls::{Image, Shelf};
 use mq_index::IndexedQueue;
-use mq_objects::Defs;
+use mq_objects::{Definitions, Defs};
 use mq_place::{Queues, RowRoom};
 use mq_sides::{Bonds, KeptReceiver, KeptSender};
 use std::alloc::Global;
@@ -33,6 +33,34 @@ pub struct Built {
     pub incarnation: u64,
 }
 
+/// The objects of an image, found by name, and the local queues that its shelves tell.
+///
+/// # Errors
+///
+/// No memory.
+fn defs_with_queues(
+    alloc: Global,
+    definitions: Definitions,
+    shelves: Items<Shelf>,
+) -> Result<(Defs, Queues<IndexedQueue>), NoMemory>
+    requires once { AreOnce definitions.objects }
+    requires read { IsRead definitions shelves }
+    ensures defs { IfOk result (λ made. made.0.definitions ≡ definitions) }
+    ensures queues { IfOk result (λ made. made.1.states ≡ map (state_on definitions) shelves) }
+{
+    let defs = match defs_of(alloc, definitions) {
+        Ok(defs) => defs,
+        Err(NoMemory) => return Err(NoMemory),
+    };
+    match queues_of(alloc, &defs, shelves) {
+        Ok(queues) => Ok((defs, queues)),
+        Err(NoMemory) => {
+            drop(defs);
+            Err(NoMemory)
+        }
+    }
+}
+
 /// Builds what a manager needs from an image. Each row and each object is moved once, and found by a map; a row of a unit
 /// in doubt is looked for once more.
 ///
@@ -51,37 +79,32 @@ pub fn build(alloc: Global, image: Image) -> Result<Built, NoMemory>
         receivers,
         incarnation,
     } = image;
-    let defs = match defs_of(alloc, definitions) {
-        Ok(defs) => defs,
-        Err(_) => return Err(NoMemory),
+    let (defs, queues) = match defs_with_queues(alloc, definitions, shelves) {
+        Ok(made) => made,
+        Err(NoMemory) => return Err(NoMemory),
     };
-    let queues = match queues_of(alloc, &defs, shelves) {
-        Ok(queues) => queues,
-        Err(_) => return Err(NoMemory),
-    };
-    let rows = match rows_for(alloc, &senders) {
-        Ok(rows) => rows,
-        Err(_) => return Err(NoMemory),
-    };
-    let bound = match seats_for(alloc, &receivers) {
-        Ok(bound) => bound,
-        Err(_) => return Err(NoMemory),
-    };
-    let senders = match senders_of(alloc, senders) {
-        Ok(senders) => senders,
-        Err(_) => return Err(NoMemory),
-    };
-    let receivers = match receivers_of(alloc, receivers) {
-        Ok(receivers) => receivers,
-        Err(_) => return Err(NoMemory),
-    };
-    Ok(Built {
-        defs,
-        queues,
-        senders,
-        receivers,
-        bound,
-        rows,
-        incarnation,
-    })
+    match sides_of(alloc, senders, receivers) {
+        Ok(sides) => {
+            let Sides {
+                senders,
+                rows,
+                receivers,
+                bound,
+            } = sides;
+            Ok(Built {
+                defs,
+                queues,
+                senders,
+                receivers,
+                bound,
+                rows,
+                incarnation,
+            })
+        }
+        Err(NoMemory) => {
+            drop(queues);
+            drop(defs);
+            Err(NoMemory)
+        }
+    }
 }

@@ -10,6 +10,7 @@ fn add_object(defs: &mut Defs, object: Object) -> Result<(), NoMemory>
     ensures { OnOk result (defs.new.definitions ≡ objects_set (object ∷ []) defs.old.definitions) }
 {
     if defs.reserve().is_err() {
+        drop(object);
         return Err(NoMemory);
     }
     defs.set(object);
@@ -42,6 +43,7 @@ pub fn defs_of(alloc: Global, definitions: Definitions) -> Result<Defs, NoMemory
     let mut defs = Defs::new(alloc);
     let Definitions { objects, manager } = definitions;
     if add_objects(&mut defs, objects).is_err() {
+        drop(defs);
         return Err(NoMemory);
     }
     defs.set_manager(manager);

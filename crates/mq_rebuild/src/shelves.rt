@@ -83,6 +83,7 @@ pub fn queues_of(
 {
     let mut queues = Queues::new(alloc);
     if add_shelves(&mut queues, defs, shelves).is_err() {
+        drop(queues);
         return Err(NoMemory);
     }
     Ok(queues)

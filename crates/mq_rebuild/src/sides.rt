@@ -31,7 +31,7 @@ fn add_sender(alloc: Global, kept: &mut Items<KeptSender>, side: SenderSide) -> 
 /// # Errors
 ///
 /// No memory.
-pub fn senders_of(alloc: Global, sides: Items<SenderSide>) -> Result<Items<KeptSender>, NoMemory>
+fn senders_of(alloc: Global, sides: Items<SenderSide>) -> Result<Items<KeptSender>, NoMemory>
     ensures { IfOk result (λ kept. kept ≡ sides) }
 {
     let mut kept = Items::new(alloc);
@@ -67,10 +67,7 @@ fn add_receiver(
 /// # Errors
 ///
 /// No memory.
-pub fn receivers_of(
-    alloc: Global,
-    sides: Items<ReceiverSide>,
-) -> Result<Items<KeptReceiver>, NoMemory>
+fn receivers_of(alloc: Global, sides: Items<ReceiverSide>) -> Result<Items<KeptReceiver>, NoMemory>
     ensures { IfOk result (λ kept. kept ≡ sides) }
 {
     let mut kept = Items::new(alloc);
@@ -113,7 +110,7 @@ fn all_listed(sides: &[SenderSide]) -> Result<usize, NoMemory>
 /// # Errors
 ///
 /// No memory.
-pub fn seats_for(alloc: Global, sides: &Items<ReceiverSide>) -> Result<Bonds, NoMemory>
+fn seats_for(alloc: Global, sides: &Items<ReceiverSide>) -> Result<Bonds, NoMemory>
     ensures bound { IfOk result (λ bonds. bonds.bound ≡ []) }
     ensures seats { IfOk result (λ bonds. AllByRecursion (λ (r : Receiver). has_seat r.channel bonds.seats ≡ true) sides.now) }
 {
@@ -132,11 +129,103 @@ pub fn seats_for(alloc: Global, sides: &Items<ReceiverSide>) -> Result<Bonds, No
 /// # Errors
 ///
 /// No memory.
-pub fn rows_for(alloc: Global, sides: &Items<SenderSide>) -> Result<RowRoom, NoMemory>
+fn rows_for(alloc: Global, sides: &Items<SenderSide>) -> Result<RowRoom, NoMemory>
     ensures { IfOk result (λ rows. sum_by (λ (s : SenderSide). length (listed s.hardened.in_doubt)) sides.now ≤ rows.room) }
 {
     match all_listed(sides.as_slice()) {
         Ok(most) => RowRoom::with_room(alloc, most),
+        Err(NoMemory) => Err(NoMemory),
+    }
+}
+
+/// What all senders have hardened, each with its room, and room for the rows of their units in doubt.
+///
+/// # Errors
+///
+/// No memory.
+fn senders_with_rows(
+    alloc: Global,
+    sides: Items<SenderSide>,
+) -> Result<(Items<KeptSender>, RowRoom), NoMemory>
+    ensures kept { IfOk result (λ made. made.0 ≡ sides) }
+    ensures rows { IfOk result (λ made. sum_by (λ (s : SenderSide). length (listed s.hardened.in_doubt)) sides ≤ made.1.room) }
+{
+    let rows = match rows_for(alloc, &sides) {
+        Ok(rows) => rows,
+        Err(NoMemory) => return Err(NoMemory),
+    };
+    match senders_of(alloc, sides) {
+        Ok(kept) => Ok((kept, rows)),
+        Err(NoMemory) => Err(NoMemory),
+    }
+}
+
+/// What all receivers have hardened, each with its room, and a place for each among those that may be bound; none is bound.
+///
+/// # Errors
+///
+/// No memory.
+fn receivers_with_seats(
+    alloc: Global,
+    sides: Items<ReceiverSide>,
+) -> Result<(Items<KeptReceiver>, Bonds), NoMemory>
+    ensures kept { IfOk result (λ made. made.0 ≡ sides) }
+    ensures bound { IfOk result (λ made. made.1.bound ≡ []) }
+    ensures seats { IfOk result (λ made. AllByRecursion (λ (r : Receiver). has_seat r.channel made.1.seats ≡ true) sides) }
+{
+    let bound = match seats_for(alloc, &sides) {
+        Ok(bound) => bound,
+        Err(NoMemory) => return Err(NoMemory),
+    };
+    match receivers_of(alloc, sides) {
+        Ok(kept) => Ok((kept, bound)),
+        Err(NoMemory) => Err(NoMemory),
+    }
+}
+
+/// What all channel ends have hardened, with the room that it needs.
+#[derive(Drop)]
+pub struct Sides {
+    /// What each sender channel has hardened.
+    pub senders: Items<KeptSender>,
+    /// Room for the rows of all units in doubt.
+    pub rows: RowRoom,
+    /// What each receiver channel has hardened.
+    pub receivers: Items<KeptReceiver>,
+    /// A place for each receiver among those that may be bound.
+    pub bound: Bonds,
+}
+
+/// What all channel ends have hardened, with the room that it needs; no receiver is bound.
+///
+/// # Errors
+///
+/// No memory.
+pub fn sides_of(
+    alloc: Global,
+    senders: Items<SenderSide>,
+    receivers: Items<ReceiverSide>,
+) -> Result<Sides, NoMemory>
+    ensures senders { IfOk result (λ sides. sides.senders ≡ senders) }
+    ensures rows { IfOk result (λ sides. sum_by (λ (s : SenderSide). length (listed s.hardened.in_doubt)) senders ≤ sides.rows.room) }
+    ensures receivers { IfOk result (λ sides. sides.receivers ≡ receivers) }
+    ensures bound { IfOk result (λ sides. sides.bound.bound ≡ []) }
+    ensures seats { IfOk result (λ sides. AllByRecursion (λ (r : Receiver). has_seat r.channel sides.bound.seats ≡ true) receivers) }
+{
+    let (senders, rows) = match senders_with_rows(alloc, senders) {
+        Ok(made) => made,
+        Err(NoMemory) => return Err(NoMemory),
+    };
+    match receivers_with_seats(alloc, receivers) {
+        Ok(made) => {
+            let (receivers, bound) = made;
+            Ok(Sides {
+                senders,
+                rows,
+                receivers,
+                bound,
+            })
+        }
         Err(NoMemory) => Err(NoMemory),
     }
 }

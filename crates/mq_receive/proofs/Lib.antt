@@ -1,5 +1,4 @@
 pub mod HomeLaws
-pub mod LetterLaws
 pub mod AheadLaws
 pub mod LeadLaws
 pub mod FillLaws

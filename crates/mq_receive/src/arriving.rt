@@ -8,14 +8,14 @@ ghost use Rattle.mq_moves.specs.Landed.{at_end, route_by};
 ghost use Rattle.mq_receive.specs.Ahead.{is_on, times_on, depth_ahead, can_take_at, may_be_dead, dead_at, resolved_at, land_at, IsAhead};
 ghost use Rattle.mq_receive.specs.Arriving.{Lands};
 
-use crate::letters::{dead_message, names_of};
 use mq_base::{ChName, NoMemory, QName};
 use mq_calls::{AgentStop, PlaceFault};
 use mq_codes::Reason;
 use mq_core::{Arrival, Parts};
 use mq_disk::Disk;
+use mq_fill::{dead_message, dest_at, names_of, queue_at};
 use mq_message::{Bytes, Message};
-use mq_moves::{dest_at, queue_at, refused_by};
+use mq_moves::refused_by;
 use mq_objects::{Channel, ChannelKind, LocalQueue, Usage};
 use mq_resolve::{PathStep, RouteEnd, resolve};
 use std::alloc::Global;

@@ -6,7 +6,6 @@ mod committing;
 mod doubts;
 mod filling;
 mod idents;
-mod letters;
 mod placing;
 mod planning;
 mod receiving;

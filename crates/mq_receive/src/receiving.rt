@@ -7,7 +7,6 @@ ghost use Rattle.mq_core.specs.Counting.{CanCount};
 ghost use Rattle.mq_spec_manager.specs.Agents.{IsUp, receive, receive_landed};
 ghost use Rattle.mq_law_manager.specs.Facts.{Sound, AreNamed};
 ghost use Rattle.mq_agents.specs.Ends.{by_place};
-ghost use Rattle.mq_agents.specs.Written.{agent_of, stop_of};
 ghost use Rattle.mq_core.specs.Ties.{Tied};
 ghost use Rattle.mq_core.specs.Values.{manager_of, WritesLog};
 ghost use Rattle.mq_core.specs.Views.{plain_of};
@@ -19,12 +18,12 @@ ghost use Rattle.mq_receive.specs.Committed.{batch_record, batch_step, IsNeed, I
 use crate::committing::{aside, commit};
 use crate::filling::lasts;
 use crate::planning::plan;
-use mq_agents::{Unwritten, agent_stop};
+use mq_agents::{agent_of, stop_of};
 use mq_base::{ChName, Items, NoMemory};
 use mq_calls::{AgentStop, PlaceFault};
 use mq_codes::Reason;
 use mq_core::{Arrival, Core, Parts, put_bytes};
-use mq_disk::{Disk, Stop};
+use mq_disk::Disk;
 use mq_message::Message;
 use mq_sync::Unit;
 use mq_unit::can_be_kept;
@@ -91,26 +90,6 @@ fn need_in<D: Disk>(parts: &Parts<D>, landed: &[Arrival]) -> Option<u64>
         return None;
     }
     Some(bytes)
-}
-
-/// What stopped a write; none where there was no memory.
-fn stop_of(unwritten: Unwritten) -> Option<Stop>
-    ensures { result ≡ stop_of unwritten }
-{
-    match unwritten {
-        Unwritten::NoMemory => None,
-        Unwritten::Stopped(stop) => Some(stop),
-    }
-}
-
-/// Why a record was not written, as channel ends are told.
-fn agent_of(unwritten: Unwritten) -> AgentStop
-    ensures { result ≡ agent_of unwritten }
-{
-    match unwritten {
-        Unwritten::NoMemory => AgentStop::NoMemory,
-        Unwritten::Stopped(stop) => agent_stop(stop),
-    }
 }
 
 /// Messages that have landed are committed, for which the log has room.

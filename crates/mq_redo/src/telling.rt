@@ -27,6 +27,7 @@ fn stands<D: Disk>(parts: &Parts<D>, ident: &Ident) -> bool
     parts.queues.home(ident).is_some()
 }
 
+/// Tells it, where it lasts.
 pub(crate) fn tell_if(effects: &mut Effects, lasts: bool, did: Did)
     requires room { 0 < effects.old.room }
     ensures dids { effects.new.dids ≡ effects.old.dids ++ only_if lasts did }
@@ -37,6 +38,7 @@ pub(crate) fn tell_if(effects: &mut Effects, lasts: bool, did: Did)
     }
 }
 
+/// Tells that a row was removed, where a row of that ident stands.
 pub(crate) fn tell_removed<D: Disk>(
     effects: &mut Effects,
     parts: &Parts<D>,

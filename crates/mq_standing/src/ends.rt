@@ -1,51 +1,19 @@
 //! How the ends of a cable stand at their managers.
-ghost use Rattle.std.specs.Prelude.{◌≡◌, ◌==◌, Some, position, option_copied, true};
+ghost use Rattle.std.specs.Prelude.{◌≡◌, Some, option_copied, true};
 ghost use Rattle.mq_calls.specs.Reads.{receiver_data, sender_data};
 ghost use Rattle.mq_sync.specs.Settlement.{receiver_or, sender_or};
 ghost use Rattle.mq_spec_node.specs.Deeds.{node_of};
-ghost use Rattle.mq_spec_node.specs.Node as nodes;
-ghost use Rattle.mq_spec_node.specs.Node.{as_receiver, as_sender, cable_of, end_in, receiver_end, sender_end};
+ghost use Rattle.mq_spec_node.specs.Node.{as_receiver, as_sender, receiver_end, sender_end};
 ghost use Rattle.mq_standing.specs.Stands.{receiver_if, receiver_standing, receiver_told, sender_if, sender_standing, sender_told, unit_of};
 
-use mq_base::{ChName, Items};
+use mq_base::ChName;
+use mq_cabled::end_in;
 use mq_core::Core;
 use mq_disk::Disk;
 use mq_net_stands::{ReceiverStanding, SenderStanding};
 use mq_own::{ChannelEnd, EndKind, Own, ReceiverEnd, SenderEnd};
 use mq_sides::{receiver_data, sender_of};
 use mq_sync::{InDoubt, ReceiverData, SenderData, Unit};
-
-fn cable_of(end: &ChannelEnd) -> u16
-    ensures { result ≡ cable_of end.now }
-{
-    match &end.kind {
-        EndKind::Sends(end) => end.cable,
-        EndKind::Receives(end) => end.cable,
-    }
-}
-
-fn place_in(ends: &[ChannelEnd], cable: u16) -> Option<usize>
-    ensures { result ≡ position (λ (e : nodes.ChannelEnd). cable_of e == cable) ends.now }
-{
-    ends.iter().position(|end| cable_of(end) == cable)
-}
-
-fn place_of(ends: &Items<ChannelEnd>, cable: u16) -> Option<usize>
-    ensures { result ≡ position (λ (e : nodes.ChannelEnd). cable_of e == cable) ends.now }
-{
-    place_in(ends.as_slice(), cable)
-}
-
-/// The end of a cable.
-#[tactic(auto, using(mq_cabled::proofs::EndLaws::at_none, mq_cabled::proofs::EndLaws::at_get))]
-fn end_in(ends: &Items<ChannelEnd>, cable: u16) -> Option<&ChannelEnd>
-    ensures { option_copied result ≡ end_in cable ends.now }
-{
-    match place_of(ends, cable) {
-        None => None,
-        Some(at) => ends.get(at),
-    }
-}
 
 fn unit_of(doubt: &Option<InDoubt>) -> Option<Unit>
     ensures { result ≡ unit_of doubt.now }

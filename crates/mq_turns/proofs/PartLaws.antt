@@ -5,13 +5,14 @@ use Rattle.mq_calls.specs.declared.choices.Choice.{Choice}
 use Rattle.mq_calls.specs.declared.choices.Choice.TheVariants.{Runs, NoMemory, Stopped}
 use Rattle.mq_calls.specs.declared.commands.Halt.TheVariants as halts
 use Rattle.mq_disk.specs.declared.cutter.Stop.{Stop}
-use Rattle.mq_calls.specs.Steps.{IsWrite, calls_at, calls_before, calls_of, forced_calls, write_calls, StopsAt}
+use Rattle.mq_calls.specs.Steps.{IsWrite, calls_at, calls_before, forced_calls, write_calls, StopsAt}
 use Rattle.mq_calls.specs.Meeting.{ManagerValue, MeetsAs, MeetsInRoom, StoppedIn, Wants}
 use Rattle.mq_calls.specs.Meeting.Wants.{Nowhere, Anywhere}
-use Rattle.mq_spec_node.specs.Terms.{Did, Plain, Part, Step, Refuse, Do, do_all, delta_of, delta_before, stopped_at}
+use Rattle.mq_spec_node.specs.Terms.{Did, Part, Step, Refuse, Do, do_all, delta_of, delta_before, stopped_at}
 use Rattle.mq_spec_manager.specs.Agents.{leave}
 use Rattle.mq_spec_node.specs.Words.{parts_of}
 use Rattle.mq_core.specs.Values.{CoreValue, manager_of}
+use Rattle.mq_core.proofs.PartLaws.{do_both, calls_both, write_front, at_front, before_front, stopped_front, delta_front}
 use Rattle.mq_law_manager.proofs.ShortSteps.{IsShort, StepIsShort}
 use Rattle.mq_events.proofs.CallLaws.{later, where_wider}
 use Rattle.mq_events.proofs.TurnLaws.{ran}
@@ -21,10 +22,6 @@ use Rattle.mq_turns.specs.Turns.{IsAsWas, IsBehind, Made, has_run, left_parts}
 abbrev pub AreSilent : List Part → Type 0
 AreSilent [] = Unit {0}
 AreSilent (x ∷ xs) = (x.forced ≡ None) × (x.delta ≡ []) × AreSilent xs
-
-pub all_append : (ps qs : List Part) (p : Plain) → do_all (ps ++ qs) p ≡ do_all qs (do_all ps p)
-all_append [] qs p = refl
-all_append (x ∷ ps) qs p = all_append ps qs _
 
 silent_told : (qs : List Part) → AreSilent qs → delta_of qs ≡ []
 silent_told [] s = refl
@@ -39,33 +36,7 @@ silent_calls [] s = refl
 silent_calls (x ∷ qs) s = let e = ap forced_calls s.0 in let r = silent_calls qs s.2 in omega (arith, e, r)
 
 calls_append : (ps qs : List Part) → AreSilent qs → write_calls (ps ++ qs) ≡ write_calls ps
-calls_append [] qs s = silent_calls qs s
-calls_append (x ∷ ps) qs s = ap (λ (n : ℕ). calls_of x + n) (calls_append ps qs s)
-
-write_append : (n : ℕ) (ps qs : List Part) → IsWrite n ps → IsWrite n (ps ++ qs)
-write_append n [] qs w = absurd w
-write_append zero (x ∷ ps) qs w = w
-write_append (suc n) (x ∷ ps) qs w = write_append n ps qs w
-
-at_append : (n : ℕ) (ps qs : List Part) → IsWrite n ps → calls_at n (ps ++ qs) ≡ calls_at n ps
-at_append n [] qs w = absurd w
-at_append zero (x ∷ ps) qs w = refl
-at_append (suc n) (x ∷ ps) qs w = at_append n ps qs w
-
-before_append : (n : ℕ) (ps qs : List Part) → IsWrite n ps → calls_before n (ps ++ qs) ≡ calls_before n ps
-before_append n [] qs w = absurd w
-before_append zero (x ∷ ps) qs w = refl
-before_append (suc n) (x ∷ ps) qs w = ap (λ (m : ℕ). calls_of x + m) (before_append n ps qs w)
-
-stop_append : (n : ℕ) (ps qs : List Part) (left : ℕ) (p : Plain) → IsWrite n ps → stopped_at n (ps ++ qs) left p ≡ stopped_at n ps left p
-stop_append n [] qs left p w = absurd w
-stop_append zero (x ∷ ps) qs left p w = refl
-stop_append (suc n) (x ∷ ps) qs left p w = stop_append n ps qs left _ w
-
-delta_append : (n : ℕ) (ps qs : List Part) → IsWrite n ps → delta_before n (ps ++ qs) ≡ delta_before n ps
-delta_append n [] qs w = absurd w
-delta_append zero (x ∷ ps) qs w = refl
-delta_append (suc n) (x ∷ ps) qs w = ap (λ (d : List Did). x.delta ++ d) (delta_append n ps qs w)
+calls_append ps qs s = let both = calls_both ps qs in let none = silent_calls qs s in omega (arith, both, none)
 
 abbrev pub behind_if : Choice → List Part → List Part
 behind_if Runs qs = qs
@@ -84,7 +55,7 @@ made_behind ps qs Runs delta old mid new s m b = record {
   made = tt;
   can = λ a. let c = m.can a in subst (λ (n : ℕ). n < old.plain.log.armed) (sym (calls_append ps qs s)) c;
   told = m.told ∙ sym (told_append ps qs s);
-  plain = b.plain ∙ ap (do_all qs) m.plain ∙ sym (all_append ps qs old.plain);
+  plain = b.plain ∙ ap (do_all qs) m.plain ∙ sym (do_both ps qs old.plain);
   later = omega (arith, m.later, b.later);
   rose = tt;
 }
@@ -94,9 +65,9 @@ made_behind ps qs (Stopped by n left) delta old mid new s m b =
     let w : IsWrite n ps = m.can.0 in
     record {
       made = tt;
-      can = (write_append n ps qs w, subst (λ (c : ℕ). S c (calls_before n (ps ++ qs))) (sym (at_append n ps qs w)) (subst (λ (k : ℕ). S (calls_at n ps) k) (sym (before_append n ps qs w)) m.can.1));
-      told = m.told ∙ sym (delta_append n ps qs w);
-      plain = b.plain ∙ m.plain ∙ sym (stop_append n ps qs left old.plain w);
+      can = (write_front n ps qs w, subst (λ (c : ℕ). S c (calls_before n (ps ++ qs))) (sym (at_front n ps qs w)) (subst (λ (k : ℕ). S (calls_at n ps) k) (sym (before_front n ps qs w)) m.can.1));
+      told = m.told ∙ sym (delta_front n ps qs w);
+      plain = b.plain ∙ m.plain ∙ sym (stopped_front n ps qs left old.plain w);
       later = omega (arith, m.later, b.later);
       rose = where_wider (Stopped by n left) old.faults old.faults mid.faults new.faults (le_self old.faults) m.rose b.later;
     }

@@ -24,6 +24,7 @@ pub use passing::{has_spelling, pass};
 pub use preparing::prepare_turn;
 pub use pushing::{bind_turn, end_turn, message_turn};
 pub use settling::settling_turn;
-pub use telling::{Passed, Turn, close_turn};
+pub use telling::{Passed, Turn, close_turn, keep_end};
 pub use timing::timeout;
 pub use turning::sender_turn;
+pub use working::is_commit;

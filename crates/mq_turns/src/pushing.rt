@@ -5,7 +5,7 @@ ghost use Rattle.mq_frame.specs.Frames.{HasSpelling};
 ghost use Rattle.mq_frame.specs.declared.frame.Seen.TheVariants as items;
 ghost use Rattle.mq_sender.specs.Table.{sender_next};
 ghost use Rattle.mq_sender.specs.declared.turns.SenderDoes.TheVariants as does_what;
-ghost use Rattle.mq_spec_manager.specs.Agents.{batch_row, names_of, stock};
+ghost use Rattle.mq_spec_manager.specs.Agents.{batch_row, stock};
 ghost use Rattle.mq_spec_node.specs.Words.{carried, sender_deed_by};
 ghost use Rattle.mq_events.specs.States.{node_in};
 ghost use Rattle.mq_turns.specs.Acting.{Acts, SendsTurn};
@@ -15,35 +15,20 @@ use crate::parting::nothing_done;
 use crate::passing::has_spelling;
 use crate::settling::end_after;
 use crate::telling::{Passed, Turn, close_turn};
-use mq_base::{NoMemory, QName};
+use mq_base::NoMemory;
 use mq_cable::{Offers, Wire};
 use mq_calls::Messages;
 use mq_disk::Disk;
 use mq_events::NodeParts;
+use mq_fill::names_of;
 use mq_frame::{Frame, Seen};
 use mq_history::{Actor, Call};
 use mq_manager::Manager;
-use mq_message::{Bytes, Dest, Message};
+use mq_message::{Bytes, Message};
 use mq_own::{ChannelEnd, EndKind, SenderEnd};
 use mq_sender::SenderDoes;
 use mq_wires::offer;
 use std::alloc::Global;
-
-/// The names that came with a message.
-fn names_of(route: &Option<Dest>) -> Dest
-    ensures { result ≡ names_of route.now }
-{
-    match route {
-        None => Dest {
-            queue: QName::blank(),
-            qmgr: QName::blank(),
-        },
-        Some(dest) => Dest {
-            queue: dest.queue,
-            qmgr: dest.qmgr,
-        },
-    }
-}
 
 /// A copy of a message without its route.
 fn copy_bare(alloc: Global, message: &Message) -> Result<Message, NoMemory>

@@ -53,7 +53,8 @@ fn settle<D: Disk>(
     )
 }
 
-fn is_commit(settle: Settle) -> bool
+/// Whether the batch is committed.
+pub fn is_commit(settle: Settle) -> bool
     ensures { result ≡ is_commit settle }
 {
     match settle {

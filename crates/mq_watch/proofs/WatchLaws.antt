@@ -1,32 +1,15 @@
 -- The last entry, and what a monitor was answered.
-use Rattle.std.proofs.Common.{◌≡◌, ℕ, suc, ◌+◌, ◌-◌, refl, ap, subst, ◌∙◌, List, [], ◌∷◌, ◌++◌, length, Bool, true, false, arith}
-use Rattle.std.specs.Prelude.{Option, Some, None, Ok, slice_get}
+use Rattle.std.proofs.Common.{◌≡◌, ℕ, ◌+◌, ap, subst, ◌∙◌, [], Bool, true, false}
+use Rattle.std.specs.Prelude.{Option, Some, None, Ok}
 use Rattle.mq_history.specs.declared.calls.Actor.TheVariants as actors
 use Rattle.mq_history.specs.declared.calls.Call.TheVariants as calls
-use Rattle.mq_spec_node.specs.Terms.{Actor, Call, Entry, Hconn, History, MonitorLine}
+use Rattle.mq_spec_node.specs.Terms.{Actor, Call, Entry, Hconn, MonitorLine}
 use Rattle.mq_frame.specs.declared.frame.Seen.TheVariants as items
 use Rattle.mq_spec_node.specs.Words.{deed_of, is_opened, script_appl, shared}
-use Rattle.mq_events.specs.States.{NodeState, node_in}
+use Rattle.mq_events.specs.States.{NodeState, last_entry, node_in}
 use Rattle.mq_events.specs.Events.{Adds, EventIs}
-use Rattle.mq_watch.specs.Turns.{Connects, Opens, connection_of, last_entry}
-
-one_less : (x y : Entry) (es : List Entry) → slice_get (x ∷ y ∷ es) (length (x ∷ y ∷ es) - 1) ≡ slice_get (y ∷ es) (length (y ∷ es) - 1)
-one_less x y es =
-    let long : length (x ∷ y ∷ es) - 1 ≡ suc (length (y ∷ es) - 1) = omega arith in
-    ap (slice_get (x ∷ y ∷ es)) long
-
-pub last_is : (es : List Entry) → slice_get es (length es - 1) ≡ last_entry es
-last_is [] = refl
-last_is (x ∷ []) = refl
-last_is (x ∷ y ∷ es) = one_less x y es ∙ last_is (y ∷ es)
-
-behind : (es : List Entry) (e : Entry) → last_entry (es ++ e ∷ []) ≡ Some e
-behind [] e = refl
-behind (x ∷ []) e = refl
-behind (x ∷ y ∷ es) e = behind (y ∷ es) e
-
-adds_last : (who : Actor) (what : Call) (e : Entry) (old new : NodeState) → Adds who what e old new → last_entry new.history.entries ≡ Some e
-adds_last who what e old new a = ap (λ (h : History). last_entry h.entries) a.grows.history ∙ behind old.history.entries e
+use Rattle.mq_events.proofs.LastLaws.{adds_last}
+use Rattle.mq_watch.specs.Turns.{Connects, Opens, connection_of}
 
 some_last : (who : Actor) (what : Call) (old new : NodeState) → (e : Entry) × Adds who what e old new → None ≡ last_entry new.history.entries → ⊥
 some_last who what old new a e = let h = e ∙ adds_last who what a.0 old new a.1 in absurd cc

@@ -1,5 +1,5 @@
 -- A monitor's turn, and how it connects, as events of its node.
-use Rattle.std.specs.Prelude.{◌≡◌, ℕ, Bool, true, false, not, ◌&&◌, List, [], ◌∷◌, Option, Some, None, Result, Ok, Err}
+use Rattle.std.specs.Prelude.{◌≡◌, ℕ, Bool, true, false, not, ◌&&◌, [], Option, Some, None, Result, Ok, Err}
 use Rattle.mq_base.specs.declared.want.NoMemory.{NoMemory as Want}
 use Rattle.mq_calls.specs.declared.answers.Answer.TheVariants as answers
 use Rattle.mq_history.specs.declared.calls.Actor.TheVariants as actors
@@ -68,12 +68,6 @@ Turns k old (Ok monitors.Idle) new = Rests k old new
 Turns k old (Ok (monitors.Started script)) new = Gets k (Some script) old new
 Turns k old (Ok monitors.Got) new = Gets k None old new
 Turns k old (Err e) new = Stays old new
-
--- the last of these
-abbrev pub last_entry : List Entry → Option Entry
-last_entry [] = None
-last_entry (e ∷ []) = Some e
-last_entry (e ∷ f ∷ es) = last_entry (f ∷ es)
 
 -- the connection that a reply gives
 abbrev pub connection_of : Reply → Option Hconn

@@ -3,7 +3,7 @@ ghost use Rattle.std.specs.Prelude.{◌≡◌, find, length, option_copied};
 ghost use Rattle.mq_heads.specs.Headers.{xqh_bytes};
 ghost use Rattle.mq_calls.specs.Reads.{is_past};
 ghost use Rattle.mq_spec_manager.specs.Heads.{xqh_of};
-ghost use Rattle.mq_spec_manager.specs.Words.{length_of, queue_at};
+ghost use Rattle.mq_spec_manager.specs.Words.{length_of};
 ghost use Rattle.mq_core.specs.Views.{plain_of};
 ghost use Rattle.mq_watch.specs.Looks.{fits, handle_fits, is_fresh, queue_fits, row_fits, seat_fits};
 
@@ -11,12 +11,12 @@ use mq_base::QName;
 use mq_calls::{Handle, Hconn, Hobj};
 use mq_core::{Core, Parts};
 use mq_disk::Disk;
+use mq_fill::queue_at;
 use mq_handles::Seat;
 use mq_heads::{Xqh, xqh_to_bytes};
 use mq_message::{Dest, Md, Message};
 use mq_place::LocalRows;
 use mq_queue::{Queue, Row};
-use mq_resolve::RouteEnd;
 
 /// The room of a monitor's get, in bytes.
 pub(crate) const ROOM: u64 = 4_194_304;
@@ -95,15 +95,6 @@ fn row_fits(row: Option<&Row>) -> bool
     match row {
         None => false,
         Some(row) => length_of(&row.message) <= ROOM,
-    }
-}
-
-fn queue_at(end: &RouteEnd) -> QName
-    ensures { result ≡ queue_at end.now }
-{
-    match end {
-        RouteEnd::Local(queue) => *queue,
-        RouteEnd::Via { xq, .. } => *xq,
     }
 }
 

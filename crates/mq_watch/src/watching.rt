@@ -3,32 +3,24 @@ ghost use Rattle.std.specs.Prelude.{◌≡◌, [], option_copied};
 ghost use Rattle.mq_history.specs.declared.calls.Call.TheVariants as calls;
 ghost use Rattle.mq_spec_node.specs.Words.{Own, is_live, is_opened, monitor_live, node_of, script_appl, shared};
 ghost use Rattle.mq_events.specs.Events.{MayAct};
-ghost use Rattle.mq_events.specs.States.{IsServed, node_in};
-ghost use Rattle.mq_watch.specs.Turns.{Connects, Opens, connection_of, last_entry};
+ghost use Rattle.mq_events.specs.States.{IsServed, last_entry, node_in};
+ghost use Rattle.mq_watch.specs.Turns.{Connects, Opens, connection_of};
 
 use crate::getting::monitor_in;
 use mq_base::{Label, NoMemory, QName};
 use mq_calls::{Answer, Appl, Hconn, Input, Open};
 use mq_core::Core;
 use mq_disk::Disk;
-use mq_events::Node;
+use mq_events::{Node, last_entry};
 use mq_history::{Actor, Call, Entry, MonitorLine, Reply};
 use mq_lines::appl_name;
 use mq_own::Monitor;
-
-/// The last entry.
-#[tactic(auto, using(crate::proofs::WatchLaws::last_is))]
-fn last(entries: &[Entry]) -> Option<&Entry>
-    ensures { option_copied result ≡ last_entry entries.now }
-{
-    entries.last()
-}
 
 /// The last entry of a node's history.
 fn last_of<D: Disk>(node: &Node<D>) -> Option<&Entry>
     ensures { option_copied result ≡ last_entry node.now.history.entries }
 {
-    last(node.entries())
+    last_entry(node.entries())
 }
 
 fn connection_of(reply: &Reply) -> Option<Hconn>

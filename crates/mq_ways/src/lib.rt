@@ -11,4 +11,4 @@ pub use laws::{
     new_cables_are_as_their_ends_say, nothing_lies_on_a_new_direction,
     what_lies_there_is_what_the_faults_make,
 };
-pub use opening::cables_of;
+pub use opening::{cables_of, copy_faults};

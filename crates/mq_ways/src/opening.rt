@@ -9,7 +9,11 @@ use mq_history::CableLine;
 use std::alloc::Global;
 
 /// A copy of the faults of a direction.
-fn copy_faults(alloc: Global, faults: &Faults) -> Result<Faults, NoMemory>
+///
+/// # Errors
+///
+/// No memory.
+pub fn copy_faults(alloc: Global, faults: &Faults) -> Result<Faults, NoMemory>
     ensures { IfOk result (λ copy. copy ≡ faults.now) }
 {
     match Faults::from_slice(alloc, faults.as_slice()) {

@@ -6,7 +6,7 @@ use Rattle.mq_base.specs.declared.want.NoMemory.{NoMemory}
 use Rattle.mq_spec_node.specs.Terms.{Act, Actor, Call, Entry, Hconn}
 use Rattle.mq_spec_node.specs.Words.{Grows, NodeValue, is_spent, more_entries}
 use Rattle.mq_spec_network.specs.Steps.{AreTriggers, is_cut}
-use Rattle.mq_events.specs.States.{NodeState, IsKept, IsServed, value_of}
+use Rattle.mq_events.specs.States.{NodeState, IsKept, IsServed, last_entry, value_of}
 use Rattle.mq_events.specs.Events.{Adds, Stays}
 use Rattle.mq_acts.specs.Asks.{Comes, IsGet}
 use Rattle.mq_acts.specs.Serving.{AreTurns, IsDone, Serves}
@@ -17,8 +17,8 @@ use Rattle.mq_history.specs.declared.calls.Actor.TheVariants as actors
 use Rattle.mq_history.specs.declared.calls.Call.TheVariants as calls
 use Rattle.mq_history.specs.declared.scenario.ScriptPart.{ScriptPart}
 use Rattle.mq_progress.specs.Course.{Course, call_in}
-use Rattle.mq_acts.specs.Advances.{LineDone, last_entry}
-use Rattle.mq_acts.proofs.LineLaws.{adds_last}
+use Rattle.mq_acts.specs.Advances.{LineDone}
+use Rattle.mq_events.proofs.LastLaws.{adds_last}
 use Rattle.mq_nodes.specs.declared.nodes.Advanced.{Advanced}
 use Rattle.mq_nodes.specs.declared.nodes.Advanced.TheVariants as advances
 use Rattle.mq_world.specs.Lines.{IsLineOf, LineDid, LineOn}

@@ -1,11 +1,11 @@
 -- What is said of a network before it starts and once it rests.
 pub use Rattle.mq_world_begin.specs.Rested.{Began, IsRested, IsRestedAt, OpensWith, RestState}
 pub use Rattle.mq_events.specs.Texts.{IsTextCommand}
-pub use Rattle.mq_acts.specs.Advances.{IsTextLine, Keeps, last_entry}
+pub use Rattle.mq_acts.specs.Advances.{IsTextLine, Keeps}
 pub use Rattle.mq_acts.specs.Restarts.{StaysOwn}
 pub use Rattle.mq_cable.specs.Lists.{AllLow}
 pub use Rattle.mq_events.specs.Events.{MayAct}
-pub use Rattle.mq_events.specs.States.{IsKept, IsServed, marked}
+pub use Rattle.mq_events.specs.States.{IsKept, IsServed, last_entry, marked}
 pub use Rattle.mq_events.specs.Texts.{IsTextAct}
 pub use Rattle.mq_history.specs.Scenarios.{ArePhased}
 pub use Rattle.mq_nodes.specs.Carried.{AllCarried}

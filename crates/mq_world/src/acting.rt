@@ -1,5 +1,5 @@
 //! What the operator, a monitor and the clock ask of one node, with the trigger turns behind it.
-ghost use Rattle.std.specs.Prelude.{◌≡◌, OnOk, option_copied};
+ghost use Rattle.std.specs.Prelude.{◌≡◌, OnOk};
 ghost use Rattle.mq_history.specs.declared.acts.Act.TheVariants as acts;
 ghost use Rattle.mq_history.specs.declared.calls.Actor.TheVariants as actors;
 ghost use Rattle.mq_history.specs.declared.calls.Call.TheVariants as calls;
@@ -10,7 +10,7 @@ use mq_acts::ask;
 use mq_base::NoMemory;
 use mq_calls::{Hconn, RestartFault};
 use mq_disk::Disk;
-use mq_events::Node;
+use mq_events::{Node, last_entry};
 use mq_history::{Act, Acted, Actor, Call, Entry, Reply};
 use mq_lines::copy_command;
 use mq_nodes::Stop;
@@ -65,17 +65,10 @@ fn is_cut(reply: &Reply) -> bool
     }
 }
 
-#[tactic(auto, using(mq_acts::proofs::LineLaws::last_is))]
-fn last(entries: &[Entry]) -> Option<&Entry>
-    ensures { option_copied result ≡ words.last_entry entries.now }
-{
-    entries.last()
-}
-
 fn last_cut(entries: &[Entry]) -> bool
     ensures { result ≡ words.cut_or (words.last_entry entries.now) }
 {
-    match last(entries) {
+    match last_entry(entries) {
         Some(entry) => is_cut(&entry.reply),
         None => false,
     }

@@ -3,19 +3,9 @@ ghost use Rattle.std.specs.Prelude.{◌≡◌, IfOk};
 ghost use Rattle.mq_world.specs.Words as words;
 
 use mq_base::{Items, NoMemory};
-use mq_cable::Faults;
 use mq_history::CableLine;
-use mq_ways::{Cable, cables_of};
+use mq_ways::{Cable, cables_of, copy_faults};
 use std::alloc::Global;
-
-fn copy_faults(alloc: Global, faults: &Faults) -> Result<Faults, NoMemory>
-    ensures { IfOk result (λ copy. copy ≡ faults.now) }
-{
-    match Faults::from_slice(alloc, faults.as_slice()) {
-        Ok(copy) => Ok(copy),
-        Err(_) => Err(NoMemory),
-    }
-}
 
 fn copy_line(alloc: Global, line: &CableLine) -> Result<CableLine, NoMemory>
     ensures { IfOk result (λ copy. copy ≡ line.now) }

@@ -1,22 +1,15 @@
 -- What a call of the program comes to, from what its parts promise.
 use Rattle.std.proofs.Common.{◌≡◌, ◌≤◌, ℕ, List, [], ◌∷◌, refl, ap, sym, subst, ◌∙◌, inl, inr, arith, length, map, ◌<◌, get_or}
-use Rattle.std.proofs.lemmas.List.Elements.{All-weaker}
-use Rattle.std.specs.Prelude.{All, IfSome, Option, None, Some, Ok}
+use Rattle.std.specs.Prelude.{IfSome, Option, None, Some, Ok}
 use Rattle.mq_base.specs.Outside.{Rose, IsLonger}
 use Rattle.mq_history.specs.Scenarios.{IsScenario}
 use Rattle.mq_history.specs.declared.scenario.Scenario.{Scenario}
-use Rattle.mq_history.specs.declared.scenario.ScriptPart.{ScriptPart}
-use Rattle.mq_history.specs.declared.scenario.Section.{Section}
-use Rattle.mq_history.specs.declared.scenario.Step.{Step}
-use Rattle.mq_history.specs.declared.scenario.Step.TheVariants as steps
-use Rattle.mq_history.specs.declared.scripts.ScriptLine.{ScriptLine}
-use Rattle.mq_history.specs.declared.scripts.ScriptLine.TheVariants as lines
 use Rattle.mq_law_image.proofs.Made.{line_text}
 use Rattle.mq_law_commands.specs.Written.{IsWritten}
 use Rattle.mq_law_commands.proofs.Commanding.{texts_written}
 use Rattle.mq_law_scenario.proofs.Either.{text_found}
 use Rattle.mq_law_scenario.proofs.Kept.{text_kept}
-use Rattle.mq_nodes.specs.Texts.{AllFit, LineFits, StepFits}
+use Rattle.mq_nodes.proofs.TextLaws.{all_weaker}
 use Rattle.mq_sc_parse.specs.declared.command.Command.{Command}
 use Rattle.mq_sc_parse.specs.declared.command.Command.TheVariants as commands
 use Rattle.mq_scn_text.specs.Reading.{scenario_of}
@@ -52,46 +45,9 @@ may_obey (commands.Objects o) w = line_text w.text w.lines w.line o w.read w.the
 may_obey (commands.Operate op) w = tt
 may_obey (commands.ShowStatus name any_end) w = tt
 
-line_obeys : (l : ScriptLine) → LineFits IsWritten l → LineFits IsTextCommand l
-line_obeys (lines.Mqsc c) h = may_obey c h
-line_obeys (lines.Mqconn name) h = tt
-line_obeys lines.Mqdisc h = tt
-line_obeys lines.Mqcmit h = tt
-line_obeys lines.Mqback h = tt
-line_obeys (lines.Mqopen handle name qmgr how) h = tt
-line_obeys (lines.Mqclose handle) h = tt
-line_obeys (lines.Mqput handle body o) h = tt
-line_obeys (lines.Mqput1 name qmgr body o) h = tt
-line_obeys (lines.Reply body o) h = tt
-line_obeys (lines.Mqget handle o) h = tt
-line_obeys lines.Crash h = tt
-line_obeys lines.Restart h = tt
-line_obeys (lines.Cut k) h = tt
-
-step_obeys : (s : Step) → StepFits IsWritten s → StepFits IsTextCommand s
-step_obeys (steps.Do m c) h = may_obey c h
-step_obeys (steps.Obey k) h = tt
-step_obeys (steps.Run k n) h = tt
-step_obeys (steps.Phase ks) h = tt
-step_obeys (steps.Pump n) h = tt
-step_obeys (steps.Handle k n) h = tt
-step_obeys (steps.Watch k) h = tt
-step_obeys (steps.Serve k n) h = tt
-step_obeys (steps.Crash m) h = tt
-step_obeys (steps.Restart m) h = tt
-step_obeys (steps.Cut m k) h = tt
-step_obeys (steps.Clock ms) h = tt
-
-all_obey : (s : Scenario) → AllFit IsWritten s → AllFit IsTextCommand s
-all_obey s h = record {
-  sections = All-weaker (λ (p : Section). All IsWritten p.commands) (λ (p : Section). All IsTextCommand p.commands) (λ p a. All-weaker IsWritten IsTextCommand may_obey p.commands a) s.sections h.sections;
-  scripts = All-weaker (λ (p : ScriptPart). All (LineFits IsWritten) p.lines) (λ (p : ScriptPart). All (LineFits IsTextCommand) p.lines) (λ p a. All-weaker (LineFits IsWritten) (LineFits IsTextCommand) line_obeys p.lines a) s.scripts h.scripts;
-  steps = All-weaker (StepFits IsWritten) (StepFits IsTextCommand) step_obeys s.steps h.steps;
-}
-
 -- all commands of a scenario that is read
 pub fits : (bytes : List ℕ) (s : Scenario) → scenario_of bytes ≡ Ok s → FitsWork (works.Run s)
-fits bytes s e = (text_kept bytes s (text_found bytes s e), all_obey s (texts_written bytes s e))
+fits bytes s e = (text_kept bytes s (text_found bytes s e), all_weaker IsWritten IsTextCommand may_obey s (texts_written bytes s e))
 
 -- ---- work that is done
 

@@ -1,18 +1,12 @@
 -- What the program tells of each PUMP of a run, and promises of one that has enough turns.
 use Rattle.std.proofs.Common.{ℕ, List, sym, subst}
-use Rattle.std.specs.Prelude.{All, IfSome, Option}
-use Rattle.std.proofs.lemmas.List.Elements.{All-weaker}
+use Rattle.std.specs.Prelude.{IfSome, Option}
 use Rattle.mq_sc_parse.specs.declared.command.Command.{Command}
 use Rattle.mq_sc_parse.specs.declared.command.Command.TheVariants as commands
 use Rattle.mq_history.specs.Scenarios.{IsScenario}
 use Rattle.mq_history.specs.declared.scenario.Scenario.{Scenario}
-use Rattle.mq_history.specs.declared.scenario.ScriptPart.{ScriptPart}
-use Rattle.mq_history.specs.declared.scenario.Section.{Section}
-use Rattle.mq_history.specs.declared.scenario.Step.{Step}
-use Rattle.mq_history.specs.declared.scenario.Step.TheVariants as steps
-use Rattle.mq_history.specs.declared.scripts.ScriptLine.{ScriptLine}
-use Rattle.mq_history.specs.declared.scripts.ScriptLine.TheVariants as lines
-use Rattle.mq_nodes.specs.Texts.{AllFit, LineFits, StepFits}
+use Rattle.mq_nodes.specs.Texts.{AllFit}
+use Rattle.mq_nodes.proofs.TextLaws.{all_weaker}
 use Rattle.mq_spec_log.specs.Applies.Start.{First}
 use Rattle.mq_spec_node.specs.Node.{Node}
 use Rattle.mq_spec_network.specs.Given.{surroundings}
@@ -38,43 +32,6 @@ text_of (commands.Objects o) h = h
 text_of (commands.Operate op) h = tt
 text_of (commands.ShowStatus name any_end) h = tt
 
-line_text_of : (l : ScriptLine) → LineFits IsTextCommand l → LineFits IsTextOf l
-line_text_of (lines.Mqsc c) h = text_of c h
-line_text_of (lines.Mqconn name) h = tt
-line_text_of lines.Mqdisc h = tt
-line_text_of lines.Mqcmit h = tt
-line_text_of lines.Mqback h = tt
-line_text_of (lines.Mqopen handle name qmgr how) h = tt
-line_text_of (lines.Mqclose handle) h = tt
-line_text_of (lines.Mqput handle body o) h = tt
-line_text_of (lines.Mqput1 name qmgr body o) h = tt
-line_text_of (lines.Reply body o) h = tt
-line_text_of (lines.Mqget handle o) h = tt
-line_text_of lines.Crash h = tt
-line_text_of lines.Restart h = tt
-line_text_of (lines.Cut k) h = tt
-
-step_text_of : (s : Step) → StepFits IsTextCommand s → StepFits IsTextOf s
-step_text_of (steps.Do m c) h = text_of c h
-step_text_of (steps.Obey k) h = tt
-step_text_of (steps.Run k n) h = tt
-step_text_of (steps.Phase ks) h = tt
-step_text_of (steps.Pump n) h = tt
-step_text_of (steps.Handle k n) h = tt
-step_text_of (steps.Watch k) h = tt
-step_text_of (steps.Serve k n) h = tt
-step_text_of (steps.Crash m) h = tt
-step_text_of (steps.Restart m) h = tt
-step_text_of (steps.Cut m k) h = tt
-step_text_of (steps.Clock ms) h = tt
-
-all_text_of : (s : Scenario) → AllFit IsTextCommand s → AllFit IsTextOf s
-all_text_of s h = record {
-  sections = All-weaker (λ (p : Section). All IsTextCommand p.commands) (λ (p : Section). All IsTextOf p.commands) (λ p a. All-weaker IsTextCommand IsTextOf text_of p.commands a) s.sections h.sections;
-  scripts = All-weaker (λ (p : ScriptPart). All (LineFits IsTextCommand) p.lines) (λ (p : ScriptPart). All (LineFits IsTextOf) p.lines) (λ p a. All-weaker (LineFits IsTextCommand) (LineFits IsTextOf) line_text_of p.lines a) s.scripts h.scripts;
-  steps = All-weaker (StepFits IsTextCommand) (StepFits IsTextOf) step_text_of s.steps h.steps;
-}
-
 -- THE DEFINITIONS WITH WHICH MANAGERS BEGIN
 open_texts : (tells : Type 0) (held : List ℕ → List ℕ → Type 0) (start : ℕ) (l : Left) → AreHistories l.scenario l.histories → AreOpenings tells held start l → OpenTexts l.scenario l.histories
 open_texts tells held start l a o m h is =
@@ -87,7 +44,7 @@ run_tells tells held start s counts l h = pumps_tell l h.lawful
 
 run_rests : (tells : Type 0) (held : List ℕ → List ℕ → Type 0) (start : ℕ) (s : Scenario) (counts : List ℕ) (l : Left) → IsScenario s → AllFit IsTextCommand s → RunLeaves tells held start s counts l → IsPromised tells PumpsRest l
 run_rests tells held start s counts l is fit h joined own =
-    pumps_rest l (subst IsScenario (sym h.scenario) is) (subst (AllFit IsTextOf) (sym h.scenario) (all_text_of s fit)) (open_texts tells held start l h.histories h.openings)
+    pumps_rest l (subst IsScenario (sym h.scenario) is) (subst (AllFit IsTextOf) (sym h.scenario) (all_weaker IsTextCommand IsTextOf text_of s fit)) (open_texts tells held start l h.histories h.openings)
     (images tells held start l h.histories h.openings) (known tells held start l h.histories h.openings) h.lawful h.carried joined (owned tells l h.own own)
 
 pub told_of_pumps : (asked : Option Task) (left : Option (List ℕ)) (tells : Type 0) (held : List ℕ → List ℕ → Type 0) (start before now : ℕ) (old new : Option (List ℕ)) (st : Status) (net : Option Left) (counts : List ℕ)

@@ -1,9 +1,10 @@
-//! A message as a dead letter: behind a header with the reason and the names that it came with (IBM MQ reference, MQDLH).
+//! A message as a dead letter: behind a header with the reason and the names that it came with (IBM MQ reference, "MQDLH").
 ghost use Rattle.std.specs.Prelude.{◌≡◌, ◌≤◌, ◌++◌, pos, length, IfOk};
 ghost use Rattle.mq_codes.specs.Numbers.{number};
 ghost use Rattle.mq_base.specs.Name.{padded};
 ghost use Rattle.mq_heads.specs.Headers.{dlh_bytes};
-ghost use Rattle.mq_spec_manager.specs.Agents.{names_of, dead_md, dead_head, dead_message};
+ghost use Rattle.mq_spec_manager.specs.Landing.{names_of, dead_md, dead_head, dead_message};
+ghost use Rattle.mq_spec_manager.specs.Words.{last_moment};
 
 use mq_base::{ChName, NoMemory, QName};
 use mq_clock::put_stamp;
@@ -13,7 +14,7 @@ use mq_message::{Bytes, Dest, Md, Message};
 use std::alloc::Global;
 
 /// The names that came with a message; blank where none did.
-pub(crate) fn names_of(route: &Option<Dest>) -> Dest
+pub fn names_of(route: &Option<Dest>) -> Dest
     ensures { result ≡ names_of route.now }
 {
     match route {
@@ -53,7 +54,7 @@ fn appl_name(channel: &ChName) -> [u8; 28]
 
 /// The header of a dead letter.
 fn dead_head(channel: &ChName, reason: &Reason, message: &Message, moment: u64) -> Dlh
-    requires { moment ≤ 253402300799999 }
+    requires { moment ≤ last_moment }
     ensures { result ≡ dead_head channel.now reason.now message.now moment }
 {
     let names = names_of(&message.route);
@@ -100,19 +101,20 @@ fn behind_head(alloc: Global, head: &Dlh, body: &[u8]) -> Result<Bytes, NoMemory
     }
 }
 
-/// A message as a dead letter of a channel.
+/// A message as a dead letter of a channel: its body behind a header of 172 bytes, without a route. The moment is in milliseconds
+/// since 1970; it is the put date and time of the header.
 ///
 /// # Errors
 ///
-/// No memory.
-pub(crate) fn dead_message(
+/// No memory, of a body that is 172 bytes longer.
+pub fn dead_message(
     alloc: Global,
     channel: &ChName,
     reason: &Reason,
     message: &Message,
     moment: u64,
 ) -> Result<Message, NoMemory>
-    requires { moment ≤ 253402300799999 }
+    requires { moment ≤ last_moment }
     ensures { IfOk result (λ m. m ≡ dead_message channel.now reason.now message.now moment) }
 {
     let head = dead_head(channel, reason, message, moment);
