@@ -28,11 +28,12 @@ use Rattle.mq_law_manager.proofs.Named.{batch_dropped}
 use Rattle.mq_law_manager.proofs.Numbered.{rows_begun}
 use Rattle.mq_law_manager.proofs.Restarting.{rows_lasting}
 use Rattle.mq_law_manager.proofs.Units.{behind}
-use Rattle.mq_law_events.specs.Tied.{connections_told, Follow, IsFresh, IsNext, IsTold}
+use Rattle.mq_law_events.specs.Tied.{Follow, IsFresh, IsNext, IsTold}
 use Rattle.mq_law_events.proofs.Getting.{none_behind}
 use Rattle.mq_law_events.proofs.Putting.{rows_after}
 use Rattle.mq_law_events.proofs.Stepping.{follows_on}
 use Rattle.mq_law_events.proofs.Stopping.{bare, lasting_alike, numbered_bare, rested_rows, rests_to}
+use Rattle.mq_law_events.proofs.Taking.{told_alike}
 use Rattle.mq_law_events.proofs.Telling.{else_changed, here_changed}
 use Rattle.mq_law_batches.specs.Releases.{AreUnprepared, let_go, release_changes, Rested, Stands}
 use Rattle.mq_law_batches.proofs.Releasing.{batch_freed, last_here, lasts, released_rows, releases, retag_alike}
@@ -190,16 +191,7 @@ rest_stays p =
 -- The whole
 
 told_let : (m : ℕ) (p r : Plain) (l : Ledger) → IsLet p r → IsTold m p l → IsTold m r l
-told_let m p r l k t = record {
-  places = t.places;
-  placed = t.placed;
-  shelved = t.shelved;
-  name = t.name ∙ ap (λ (g : Given). g.name) (sym k.given);
-  definitions = t.definitions ∙ sym k.definitions;
-  users = t.users;
-  used = t.used;
-  connections = t.connections ∙ ap connections_told (sym k.connections);
-}
+told_let m p r l k t = told_alike m p r l k.given k.definitions k.connections t
 
 -- to a manager without connections or batches, by way of one that has released them
 rests : (s : Scenario) (given : Ident → Bool) (m : ℕ) (p q : Plain) (ps qs : List Plain) (l : Ledger) (g : Ghost) → IsNext m p q ps qs → IsTold m p l → IsFresh given q → IsRest p (record q { numbers = p.numbers }) → AreUnprepared s ps p

@@ -1,30 +1,25 @@
 -- What holds of a manager holds behind each part of each call, command, trigger and turn of a handler, and of a timeout.
-use Rattle.std.proofs.Common.{ℕ, ◌≡◌, Bool, true, false, List, [], ◌∷◌, refl, ap, sym, ◌∙◌, inl, inr}
-use Rattle.std.specs.Prelude.{Option, Some, None, find, if◌then◌else◌, ◌&&◌, not, codes}
-use Rattle.std.specs.Str.{bytes_eq}
+use Rattle.std.proofs.Common.{ℕ, ◌≡◌, Bool, true, false, List, [], ◌∷◌}
+use Rattle.std.specs.Prelude.{Option, Some, None, if◌then◌else◌}
 use Rattle.mq_queue.specs.declared.row.Row.{Row}
-use Rattle.mq_queue.specs.Rows.{has_ident, is_free, same_ident}
-use Rattle.mq_spec_manager.specs.Heads.{is_dead}
-use Rattle.mq_objects.specs.declared.object.LocalQueue.{LocalQueue}
-use Rattle.mq_objects.specs.Names.{is_transmission, local_of}
+use Rattle.mq_objects.specs.Names.{local_of}
 use Rattle.mq_frame.specs.declared.frame.Seen.{Seen}
 use Rattle.mq_sender.specs.States.{awaits, is_running, timed_out}
 use Rattle.mq_history.specs.declared.calls.Actor.{Actor}
 use Rattle.mq_history.specs.declared.calls.Call.{Call}
 use Rattle.mq_calls.specs.State.{Plain}
-use Rattle.mq_calls.specs.Reads.{stored}
 use Rattle.mq_calls.specs.Steps.{Part, Step, do_all, do_part}
 use Rattle.mq_spec_manager.specs.Words.{mqconn, mqopen, mqclose, mqput, mqput1, mqget, mqcmit, mqback, mqdisc, command, trigger_turn}
-use Rattle.mq_spec_manager.specs.Conditions.{CanMove, is_ordinary}
+use Rattle.mq_spec_manager.specs.Conditions.{CanMove}
 use Rattle.mq_spec_manager.specs.Agents.{discard, leave, move_row}
 use Rattle.mq_spec_node.specs.Node.{Handler, Node, SenderEnd}
 use Rattle.mq_spec_node.specs.Deeds.{Deed, parts_of}
 use Rattle.mq_spec_node.specs.Handlers as handlers
 use Rattle.mq_spec_node.specs.Senders.{after_timeout, timeout_deed}
 use Rattle.mq_spec_node.specs.Happens.{deed_of}
-use Rattle.mq_law_manager.specs.Facts.{Differ, IsSound, Mem, ident_of}
+use Rattle.mq_law_manager.specs.Facts.{IsSound}
 use Rattle.mq_law_manager.specs.Kept.{AllKeep, StepKeeps}
-use Rattle.mq_law_manager.proofs.Lists.{bool_case, ident_self, ident_yes}
+use Rattle.mq_law_manager.proofs.Lists.{bool_case}
 use Rattle.mq_law_manager.proofs.Puts.{mqconn_keeps, mqopen_keeps, mqclose_keeps, mqput_keeps, mqput1_keeps}
 use Rattle.mq_law_manager.proofs.Removals.{mqget_keeps}
 use Rattle.mq_law_manager.proofs.Units.{mqcmit_keeps, mqback_keeps, mqdisc_keeps}
@@ -33,10 +28,10 @@ use Rattle.mq_law_manager.proofs.Handling.{discard_keeps, leave_keeps, move_row_
 use Rattle.mq_law_manager.proofs.StockCommands.{command_stocked}
 use Rattle.mq_law_manager.proofs.Stocks.{conn_stocked, open_stocked, close_stocked, put_stocked, put1_stocked, get_stocked, cmit_stocked, back_stocked, disc_stocked, discard_stocked, leave_stocked, move_stocked, trigger_stocked}
 use Rattle.mq_law_manager.proofs.Ending.{joined}
-use Rattle.mq_law_manager.proofs.Steps.{free_is}
 use Rattle.mq_law_node.specs.Quiet.{IsOrdinary}
 use Rattle.mq_law_unshared.specs.Ordinary.{CallsHave, EachHas}
 use Rattle.mq_law_unshared.proofs.Deeds.{parts_keep}
+use Rattle.mq_law_node.proofs.Letters.{can_move, letter_of}
 use Rattle.mq_law_unshared.proofs.Ordinary.{ordinary_has}
 use Rattle.mq_law_turns.specs.Turns.{EachSound}
 
@@ -45,39 +40,9 @@ pub behind : (parts : List Part) (p : Plain) → IsSound p → AllKeep IsSound p
 behind [] p h k = h
 behind (part ∷ parts) p h k = behind parts (do_part part p) k.0 k.1
 
--- the handler: what it reads is a free row of an ordinary queue
-found_in : (test : Row → Bool) (rows : List Row) (x : Row) → find test rows ≡ Some x → Mem x rows × (test x ≡ true)
-found_in test [] x e = absurd cc
-found_in test (r ∷ rows) x e = bool_case (test r) (λ t. test r ≡ t → (if t then Some r else find test rows) ≡ Some x → Mem x (r ∷ rows) × (test x ≡ true))
-    (λ z w f. let is : r ≡ x = cc in (inl (sym is), ap test (sym is) ∙ w)) (λ z w f. let k = found_in test rows x f in (inr k.0, k.1)) refl e
-
-found_one : (rows : List Row) (x : Row) → Differ ident_of rows → Mem x rows → find (has_ident x.message.ident) rows ≡ Some x
-found_one [] x d n = absurd n
-found_one (r ∷ rows) x d (inl e) = ap (λ t. if t then Some r else find (has_ident x.message.ident) rows) (ap (λ (y : Row). same_ident y.message.ident x.message.ident) (sym e) ∙ ident_self x.message.ident) ∙ ap (λ y. Some y) (sym e)
-found_one (r ∷ rows) x d (inr n) = bool_case (same_ident r.message.ident x.message.ident) (λ t. same_ident r.message.ident x.message.ident ≡ t → (if t then Some r else find (has_ident x.message.ident) rows) ≡ Some x)
-    (λ z w. absurd (d.0 x n (ident_yes r.message.ident x.message.ident w))) (λ z w. found_one rows x d.1 n) refl
-
-both_first : (a b : Bool) → (a && b) ≡ true → a ≡ true
-both_first true b e = refl
-both_first false b e = absurd cc
-
-both_last : (a b : Bool) → (a && b) ≡ true → b ≡ true
-both_last true b e = e
-both_last false b e = absurd cc
-
-ordinary_of : (o : Option LocalQueue) → handlers.is_readable o ≡ true → is_ordinary o ≡ true
-ordinary_of None e = absurd cc
-ordinary_of (Some q) e = both_last q.get_enabled (not (is_transmission q.usage)) e
-
+-- the handler: what it reads may be moved
 letter_moves : (q : List ℕ) (h : Handler) (p : Plain) (x : Row) (bare : Bool) → IsSound p → handlers.is_readable (local_of q p.definitions) ≡ true → handlers.next_letter q h p ≡ Some x → CanMove q x.message.ident bare p
-letter_moves q h p x bare sound readable e =
-    let k = found_in (handlers.is_handled q h p) (stored q p).rows x e in
-    let letter : handlers.is_letter x ≡ true = both_first (handlers.is_letter x) (handlers.is_due p.moment (handlers.tries_of q x.message.ident h)) k.1 in
-    let first = both_first (is_free x && bytes_eq x.message.md.format (codes "MQDEAD  ")) (is_dead x.message.body) letter in
-    record {
-      free = record { row = x; ordinary = ordinary_of (local_of q p.definitions) readable; found = found_one (stored q p).rows x (sound.facts.apart.once q) k.0; free = free_is x (both_first (is_free x) (bytes_eq x.message.md.format (codes "MQDEAD  ")) first) };
-      dead = λ z. both_last (is_free x && bytes_eq x.message.md.format (codes "MQDEAD  ")) (is_dead x.message.body) letter;
-    }
+letter_moves q h p x bare sound readable e = can_move q p x bare sound (letter_of q h p x readable e)
 
 -- what a step keeps, its parts keep
 kept : {F T : Type 0} (s : Step F T) (p : Plain) → StepKeeps IsSound s p → AllKeep IsSound (parts_of s) p

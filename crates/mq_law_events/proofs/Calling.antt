@@ -43,7 +43,7 @@ use Rattle.mq_spec_manager.specs.Handles.{new_connection, new_hconn, new_handle}
 use Rattle.mq_spec_manager.specs.Commands.{follows, renewed, renewed_if, stale_if, switched_if, dropped, uses_of, definitions_after}
 use Rattle.mq_spec_manager.proofs.Accepted.{accepted, displayed}
 use Rattle.mq_spec_network.specs.Ledger as ledgers
-use Rattle.mq_spec_network.specs.Ledger.{Ledger, Users, places_or, opened_by, close, unit_of, ledger_rows, rows_in}
+use Rattle.mq_spec_network.specs.Ledger.{Ledger, Users, places_or, opened_by, close, unit_of, ledger_rows, rows_in, with_users}
 use Rattle.mq_law_rows.proofs.Lists.{bool_case, name_yes}
 use Rattle.mq_law_manager.specs.Facts.{AreDefined}
 use Rattle.mq_law_manager.proofs.Commanding.{IsEmptied, IsPlan, plan_is, undefined_empty}
@@ -105,16 +105,17 @@ calm_follows m given p q l f t c d = record {
 
 -- Connections
 
--- a connection that changes, and is told so
-pub connection_follows : (m : ℕ) (given : Ident → Bool) (p : Plain) (l : Ledger) (hc : Hconn) (f g : Connection → Connection) → IsFresh given p → IsTold m p l
-    → ((c : Connection) → (f c).number ≡ c.number) → ((c : Connection) → (f c).unit ≡ c.unit) → ((c : Connection) → connection_told (f c) ≡ g (connection_told c))
-    → Follow m given p l (record p { connections = change_connection hc.number f p.connections }) (ledgers.on_connection m hc g l)
-connection_follows m given p l hc f g fresh t number unit told =
-    let q : Plain = record p { connections = change_connection hc.number f p.connections } in
+-- connections change, and a manager's users are told so
+pub users_follow : (m : ℕ) (given : Ident → Bool) (p : Plain) (cs : List Connection) (numbers : Numbers) (l : Ledger) (g : List Connection → List Connection) → IsFresh given (record p { connections = cs; numbers = numbers }) → IsTold m p l
+    → ((k : ℕ) → unit_of (connection_at k cs) ≡ unit_of (connection_at k p.connections)) → g (connections_told p.connections) ≡ connections_told cs
+    → Follow m given p l (record p { connections = cs; numbers = numbers }) (with_users m (λ u. record u { connections = g u.connections }) l)
+users_follow m given p cs numbers l g fresh t units told =
+    let q : Plain = record p { connections = cs; numbers = numbers } in
+    let f : Users → Users = λ u. record u { connections = g u.connections } in
     record {
       now = given;
-      leads = leads_to m (side_of p given) (side_of p given) (side_of q given) (sheet_of m l) (sheet_of m l) (sheet_of m (ledgers.on_connection m hc g l)) (stays_leads m (side_of p given) (sheet_of m l))
-          (λ i. record { rows = λ d. (stored d p).rows; units = λ k. sym (unit_stays hc.number f p.connections number unit k) i; given = given }) refl;
+      leads = leads_to m (side_of p given) (side_of p given) (side_of q given) (sheet_of m l) (sheet_of m l) (sheet_of m (with_users m f l)) (stays_leads m (side_of p given) (sheet_of m l))
+          (λ i. record { rows = λ d. (stored d p).rows; units = λ k. sym (units k) i; given = given }) refl;
       fresh = fresh;
       known = λ i e. refl;
       told = record {
@@ -123,15 +124,22 @@ connection_follows m given p l hc f g fresh t number unit told =
         shelved = t.shelved;
         name = t.name;
         definitions = t.definitions;
-        users = record t.users { connections = change_connection hc.number g t.users.connections };
-        used = here_changed m (λ (u : Users). record u { connections = change_connection hc.number g u.connections }) l.users t.users t.used;
-        connections = ap (change_connection hc.number g) t.connections ∙ sym (changed_told hc.number f g p.connections told);
+        users = f t.users;
+        used = here_changed m f l.users t.users t.used;
+        connections = ap g t.connections ∙ told;
       };
       same = record { given = refl; senders = refl; receivers = refl; batches = refl };
       steady = refl;
-      other = else_users m (λ (u : Users). record u { connections = change_connection hc.number g u.connections }) l;
-      kept = users_stay m (λ (u : Users). record u { connections = change_connection hc.number g u.connections }) l (λ u. record { cut = refl; moment = refl });
+      other = else_users m f l;
+      kept = users_stay m f l (λ u. record { cut = refl; moment = refl });
     }
+
+-- a connection that changes, and is told so
+pub connection_follows : (m : ℕ) (given : Ident → Bool) (p : Plain) (l : Ledger) (hc : Hconn) (f g : Connection → Connection) → IsFresh given p → IsTold m p l
+    → ((c : Connection) → (f c).number ≡ c.number) → ((c : Connection) → (f c).unit ≡ c.unit) → ((c : Connection) → connection_told (f c) ≡ g (connection_told c))
+    → Follow m given p l (record p { connections = change_connection hc.number f p.connections }) (ledgers.on_connection m hc g l)
+connection_follows m given p l hc f g fresh t number unit told =
+    users_follow m given p (change_connection hc.number f p.connections) p.numbers l (change_connection hc.number g) fresh t (unit_stays hc.number f p.connections number unit) (sym (changed_told hc.number f g p.connections told))
 
 -- a cursor is not told
 untold_handles : (n : ℕ) (f : Handle → Handle) (hs : List Handle) → ((h : Handle) → handle_told (f h) ≡ handle_told h) → map handle_told (change_handle n f hs) ≡ map handle_told hs
@@ -175,29 +183,8 @@ pub connect_follows : (m : ℕ) (given : Ident → Bool) (p : Plain) (l : Ledger
     → Follow m given p l (apply (Connect (new_connection appl p)) p) (ledgers.connect m (new_hconn p) appl l)
 connect_follows m given p l appl f t =
     let c : Connection = new_connection appl p in
-    let q : Plain = apply (Connect c) p in
-    let add : Users → Users = λ u. record u { connections = u.connections ++ record { number = p.numbers.connections + 1; appl = appl; handles = []; last_handle = 0; unit = [] } ∷ [] } in
-    record {
-      now = given;
-      leads = leads_to m (side_of p given) (side_of p given) (side_of q given) (sheet_of m l) (sheet_of m l) (sheet_of m (ledgers.connect m (new_hconn p) appl l)) (stays_leads m (side_of p given) (sheet_of m l))
-          (λ i. record { rows = λ d. (stored d p).rows; units = λ k. sym (added_unit k c p.connections refl) i; given = given }) refl;
-      fresh = f;
-      known = λ i e. refl;
-      told = record {
-        places = t.places;
-        placed = t.placed;
-        shelved = t.shelved;
-        name = t.name;
-        definitions = t.definitions;
-        users = add t.users;
-        used = here_changed m add l.users t.users t.used;
-        connections = ap (λ cs. cs ++ c ∷ []) t.connections ∙ sym (more_told p.connections (c ∷ []));
-      };
-      same = record { given = refl; senders = refl; receivers = refl; batches = refl };
-      steady = refl;
-      other = else_users m add l;
-      kept = users_stay m add l (λ u. record { cut = refl; moment = refl });
-    }
+    users_follow m given p (p.connections ++ c ∷ []) (record p.numbers { connections = p.numbers.connections + 1 }) l
+    (λ cs. cs ++ record { number = p.numbers.connections + 1; appl = appl; handles = []; last_handle = 0; unit = [] } ∷ []) f t (λ k. added_unit k c p.connections refl) (sym (more_told p.connections (c ∷ [])))
 
 -- Objects
 

@@ -22,7 +22,7 @@ use Rattle.mq_calls.specs.declared.state.Handle.{Handle}
 use Rattle.mq_calls.specs.declared.state.Item.{Item}
 use Rattle.mq_calls.specs.declared.state.Item.TheVariants.{Put, Take}
 use Rattle.mq_history.specs.declared.calls.Reply.TheVariants as replies
-use Rattle.mq_calls.specs.State.{Plain, Change}
+use Rattle.mq_calls.specs.State.{Plain, Change, LogState}
 use Rattle.mq_calls.specs.State.Change.{CountIdent, Connect, OpenHandle, CloseHandle, Pend, EndUnit}
 use Rattle.mq_calls.specs.Reads.{connection_at, handle_at}
 use Rattle.mq_calls.specs.Changes.{apply, apply_all}
@@ -129,9 +129,9 @@ pub told_logged : (m : ℕ) (r : Option LogRecord) (p : Plain) (l : Ledger) → 
 told_logged m None p l t = t
 told_logged m (Some r) p l t = record { places = t.places; placed = t.placed; shelved = t.shelved; name = t.name; definitions = t.definitions; users = t.users; used = t.used; connections = t.connections }
 
-pub from_logged : (m : ℕ) (given : Ident → Bool) (r : Option LogRecord) (p q : Plain) (l k : Ledger) → Follow m given (logged r p) l q k → Follow m given p l q k
-from_logged m given None p q l k f = f
-from_logged m given (Some r) p q l k f = record {
+-- where a record stands in the log
+pub from_log : (m : ℕ) (given : Ident → Bool) (p q : Plain) (log : LogState) (l k : Ledger) → Follow m given (record p { log = log }) l q k → Follow m given p l q k
+from_log m given p q log l k f = record {
   now = f.now;
   leads = f.leads;
   fresh = f.fresh;
@@ -142,6 +142,10 @@ from_logged m given (Some r) p q l k f = record {
   other = f.other;
   kept = f.kept;
 }
+
+pub from_logged : (m : ℕ) (given : Ident → Bool) (r : Option LogRecord) (p q : Plain) (l k : Ledger) → Follow m given (logged r p) l q k → Follow m given p l q k
+from_logged m given None p q l k f = f
+from_logged m given (Some r) p q l k f = from_log m given p q _ l k f
 
 next_logged : (r : Option LogRecord) (p : Plain) → next_ident (logged r p) ≡ next_ident p
 next_logged None p = refl

@@ -11,22 +11,20 @@ use Rattle.mq_calls.specs.declared.answers.Answer.TheVariants as answers
 use Rattle.mq_history.specs.declared.calls.Reply.TheVariants as replies
 use Rattle.mq_calls.specs.State.{Plain, Change}
 use Rattle.mq_calls.specs.State.Change.{Disconnect}
-use Rattle.mq_calls.specs.Reads.{connection_at, stored}
+use Rattle.mq_calls.specs.Reads.{connection_at}
 use Rattle.mq_calls.specs.Changes.{apply, change_connection}
 use Rattle.mq_calls.specs.Steps.{Part, logged, do_part, note_of}
 use Rattle.mq_calls.specs.Steps.Step.{Do}
 use Rattle.mq_spec_manager.specs.Handles.{connected}
 use Rattle.mq_spec_manager.specs.Units.{mqdisc, commit_part}
 use Rattle.mq_spec_network.specs.Ledger as ledgers
-use Rattle.mq_spec_network.specs.Ledger.{Ledger, Users, when, is_ended, unit_of}
+use Rattle.mq_spec_network.specs.Ledger.{Ledger, when, is_ended, unit_of}
 use Rattle.mq_law_rows.proofs.Lists.{bool_case, eqb_yes}
 use Rattle.mq_law_manager.proofs.Units.{found_number}
-use Rattle.mq_law_events.specs.Local.{side_of, sheet_of}
 use Rattle.mq_law_events.specs.Tied.{IsTold, IsFresh, Follow}
 use Rattle.mq_law_events.specs.Posting.{IsListed, StepFollows, StopFollows}
-use Rattle.mq_law_events.proofs.Locals.{stays_leads}
-use Rattle.mq_law_events.proofs.Telling.{gone_told, here_changed, else_users}
-use Rattle.mq_law_events.proofs.Putting.{leads_to, users_stay}
+use Rattle.mq_law_events.proofs.Calling.{users_follow}
+use Rattle.mq_law_events.proofs.Telling.{gone_told}
 use Rattle.mq_law_events.proofs.Committing.{committed, commit_follows}
 use Rattle.mq_law_events.proofs.Stopping.{freezes}
 use Rattle.mq_law_events.proofs.Events.{for_live, lives, from_logged, fresh_logged, told_logged, live_logged, listed_logged, commit_is, commit_gone}
@@ -50,34 +48,11 @@ gone_unit n k cs none = ap unit_of (gone k cs) ∙ bool_case (k == n) (λ t. (k 
         (λ e. ap (λ (o : Option Connection). if c.number == k then Some c else o) (gone k cs) ∙ bool_case (k == n) (λ b. (k == n) ≡ b → (if c.number == k then Some c else (if b then None else connection_at k cs)) ≡ (if b then None else (if c.number == k then Some c else connection_at k cs)))
         (λ w z. ap (λ (b : Bool). if b then Some c else None) (other_one c.number n k e z)) (λ w z. refl) refl)
 
-abbrev less : ℕ → Users → Users
-less n u = record u { connections = filter (λ (c : Connection). not (c.number == n)) u.connections }
-
 pub disconnect_follows : (m : ℕ) (given : Ident → Bool) (p : Plain) (l : Ledger) (hc : Hconn) → IsFresh given p → IsTold m p l → unit_of (connection_at hc.number p.connections) ≡ []
     → Follow m given p l (apply (Disconnect hc.number) p) (ledgers.disconnect m hc l)
 disconnect_follows m given p l hc f t none =
-    let q : Plain = apply (Disconnect hc.number) p in
-    record {
-      now = given;
-      leads = leads_to m (side_of p given) (side_of p given) (side_of q given) (sheet_of m l) (sheet_of m l) (sheet_of m (ledgers.disconnect m hc l)) (stays_leads m (side_of p given) (sheet_of m l))
-          (λ i. record { rows = λ d. (stored d p).rows; units = λ k. sym (gone_unit hc.number k p.connections none) i; given = given }) refl;
-      fresh = f;
-      known = λ i e. refl;
-      told = record {
-        places = t.places;
-        placed = t.placed;
-        shelved = t.shelved;
-        name = t.name;
-        definitions = t.definitions;
-        users = less hc.number t.users;
-        used = here_changed m (less hc.number) l.users t.users t.used;
-        connections = ap (filter (λ (c : Connection). not (c.number == hc.number))) t.connections ∙ sym (gone_told hc.number p.connections);
-      };
-      same = record { given = refl; senders = refl; receivers = refl; batches = refl };
-      steady = refl;
-      other = else_users m (less hc.number) l;
-      kept = users_stay m (less hc.number) l (λ u. record { cut = refl; moment = refl });
-    }
+    let less : List Connection → List Connection = filter (λ (c : Connection). not (c.number == hc.number)) in
+    users_follow m given p (less p.connections) p.numbers l less f t (λ k. gone_unit hc.number k p.connections none) (sym (gone_told hc.number p.connections))
 
 pub ended_none : (n : ℕ) (cs : List Connection) → unit_of (connection_at n (change_connection n (λ c. record c { unit = [] }) cs)) ≡ []
 ended_none n [] = refl

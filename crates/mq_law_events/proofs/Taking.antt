@@ -90,18 +90,21 @@ take_else true m i l =
     let e = else_places m (λ p. record p { queues = leave_queues (λ (row : Row). not (same_ident row.message.ident i)) p.queues }) l in
     record { places = e.places; users = e.users }
 
--- A manager that differs beside nothing but in its rows is told alike.
-pub told_beside : (m : ℕ) (p r : Plain) (l : Ledger) → IsBeside p r → IsTold m p l → IsTold m r l
-told_beside m p r l b t = record {
+-- A manager that has the same name, definitions and connections is told alike.
+pub told_alike : (m : ℕ) (p r : Plain) (l : Ledger) → r.given ≡ p.given → r.definitions ≡ p.definitions → r.connections ≡ p.connections → IsTold m p l → IsTold m r l
+told_alike m p r l given definitions connections t = record {
   places = t.places;
   placed = t.placed;
   shelved = t.shelved;
-  name = t.name ∙ ap (λ (g : Given). g.name) (sym b.given);
-  definitions = t.definitions ∙ sym b.definitions;
+  name = t.name ∙ ap (λ (g : Given). g.name) (sym given);
+  definitions = t.definitions ∙ sym definitions;
   users = t.users;
   used = t.used;
-  connections = t.connections ∙ ap connections_told (sym b.connections);
+  connections = t.connections ∙ ap connections_told (sym connections);
 }
+
+pub told_beside : (m : ℕ) (p r : Plain) (l : Ledger) → IsBeside p r → IsTold m p l → IsTold m r l
+told_beside m p r l b t = told_alike m p r l b.given b.definitions b.connections t
 
 -- Rows that go one by one
 

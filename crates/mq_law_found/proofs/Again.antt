@@ -1,18 +1,15 @@
 -- A restart that finds a stopped write has a sound manager: it is where the call would have come to, whatever the moment.
-use Rattle.std.proofs.Common.{ℕ, ◌≡◌, true, false, List, [], ◌∷◌, refl, ap, sym, subst, ◌∙◌}
-use Rattle.std.specs.Prelude.{Bool, Option, Some, None}
+use Rattle.std.proofs.Common.{ℕ, ◌≡◌, true, List, refl, ap, sym, subst, ◌∙◌}
+use Rattle.std.specs.Prelude.{Option, Some, None}
 use Rattle.mq_queue.specs.declared.row.Row.{Row}
 use Rattle.std.specs.Prelude.{not}
 use Rattle.mq_calls.specs.declared.records.LogRecord.{LogRecord}
-use Rattle.mq_objects.specs.Names.{local_of}
 use Rattle.mq_calls.specs.State.{Plain, Queue, Running, LogState, Noted, Change, Given}
-use Rattle.mq_calls.specs.State.Change.{Try, SetBound}
 use Rattle.mq_calls.specs.State.Which.{Nonpersistent}
-use Rattle.mq_calls.specs.Condition.{condition}
-use Rattle.mq_calls.specs.Changes.{apply, apply_all, try_if, kept_in, selects}
+use Rattle.mq_calls.specs.Changes.{apply_all, kept_in, selects}
 use Rattle.mq_calls.specs.Images.{lasting, raised}
 use Rattle.mq_calls.specs.declared.image.Image.{Image}
-use Rattle.mq_calls.specs.Steps.{Part, logged, do_part, volatile_gone, stands_in}
+use Rattle.mq_calls.specs.Steps.{logged, volatile_gone, stands_in}
 use Rattle.mq_spec_manager.specs.Stops.{redone, restarted, grown}
 use Rattle.mq_law_manager.specs.Facts.{IsSound}
 use Rattle.mq_law_manager.proofs.Numbered.{ImageRests}
@@ -25,29 +22,6 @@ use Rattle.mq_law_log.proofs.Placings.{all_mapped, laned_kept}
 use Rattle.mq_law_log.proofs.Steady.{AllSteady, AllLaned, same_all}
 use Rattle.mq_law_log.proofs.Stops.{frozen_lasts}
 use Rattle.mq_law_found.specs.Finds.{since}
-
--- what is given stays
-
-tried_given : (b : Bool) (name : List ℕ) (p : Plain) → (try_if b name p).given ≡ p.given
-tried_given true name p = refl
-tried_given false name p = refl
-
-given_kept : (c : Change) (p : Plain) → (apply c p).given ≡ p.given
-given_kept (Try name priority) p = tried_given (condition (local_of name p.definitions) priority p) name p
-given_kept (SetBound channel true) p = refl
-given_kept (SetBound channel false) p = refl
-given_kept c p = refl
-
-all_given : (cs : List Change) (p : Plain) → (apply_all cs p).given ≡ p.given
-all_given [] p = refl
-all_given (c ∷ cs) p = all_given cs (apply c p) ∙ given_kept c p
-
-pub part_given : (part : Part) (p : Plain) → (do_part part p).given ≡ p.given
-part_given part p = all_given part.changes (logged part.forced p) ∙ at part.forced
-  where
-    at : (r : Option LogRecord) → (logged r p).given ≡ p.given
-    at None = refl
-    at (Some r) = refl
 
 -- What lasts of steady changes does not go by the moment, nor by rows that do not last.
 

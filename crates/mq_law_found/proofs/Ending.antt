@@ -39,19 +39,20 @@ use Rattle.mq_law_manager.specs.View.{puts_in, items_of}
 use Rattle.mq_law_manager.specs.Facts.{has_queue, IsSound}
 use Rattle.mq_law_manager.specs.Kept.{StepKeeps}
 use Rattle.mq_law_manager.proofs.Units.{behind, found_number}
+use Rattle.mq_law_manager.proofs.Untouched.{part_given}
 use Rattle.mq_law_log.proofs.Landings.{placed_steady}
 use Rattle.mq_law_log.proofs.Placings.{has_mapped, has_set}
 use Rattle.mq_law_log.proofs.Steady.{AllSteady, steady_append}
 use Rattle.mq_law_events.specs.Tied.{IsTold, IsFresh, Follow}
 use Rattle.mq_law_events.specs.Posting.{IsListed}
 use Rattle.mq_law_events.proofs.Committing.{committed, commit_follows}
-use Rattle.mq_law_events.proofs.Events.{lives, commit_is}
+use Rattle.mq_law_events.proofs.Events.{commit_is, from_log, lives}
 use Rattle.mq_law_events.proofs.Getting.{follow_then}
 use Rattle.mq_law_events.proofs.Leaving.{disconnect_follows, ended_none}
 use Rattle.mq_law_events.proofs.Sounds.{listed}
 use Rattle.mq_law_found.specs.Finds.{since, stopped_call, PartNotes, StepNotes}
-use Rattle.mq_law_found.proofs.Finding.{live_with, one_noted, told_since, told_then, in_moment, from_log}
-use Rattle.mq_law_found.proofs.Again.{part_given, steady_lasts, rises}
+use Rattle.mq_law_found.proofs.Finding.{live_with, one_noted, told_since, told_then, in_moment}
+use Rattle.mq_law_found.proofs.Again.{steady_lasts, rises}
 use Rattle.mq_law_found.proofs.Going.{left_row}
 
 -- What a unit's end tells takes nothing, whatever of it is told again

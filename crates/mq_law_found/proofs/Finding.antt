@@ -106,17 +106,3 @@ in_moment m t given p q l k told f =
           let inner = f.kept (set_moment t u) f.told.users (here_changed m (set_moment t) l.users u a) f.told.used in
           record { cut = ap (λ (y : Users). y.cut) is ∙ inner.cut; moment = ap (λ (y : Users). y.moment) is ∙ was };
     }
-
--- a record stands in the log
-pub from_log : (m : ℕ) (given : Ident → Bool) (p q : Plain) (log : LogState) (l k : Ledger) → Follow m given (record p { log = log }) l q k → Follow m given p l q k
-from_log m given p q log l k f = record {
-  now = f.now;
-  leads = f.leads;
-  fresh = f.fresh;
-  known = f.known;
-  told = f.told;
-  same = record { given = f.same.given; senders = f.same.senders; receivers = f.same.receivers; batches = f.same.batches };
-  steady = f.steady;
-  other = f.other;
-  kept = f.kept;
-}

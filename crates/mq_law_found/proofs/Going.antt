@@ -35,12 +35,14 @@ use Rattle.mq_law_manager.specs.Facts.{AreNamed, Differ, IsSound}
 use Rattle.mq_law_manager.proofs.Lists.{one_row}
 use Rattle.mq_law_manager.proofs.QueueNames.{mapped_named}
 use Rattle.mq_law_manager.proofs.Removals.{mem_filter, differ_filter}
+use Rattle.mq_law_manager.proofs.Untouched.{part_given}
 use Rattle.mq_law_events.specs.Tied.{Follow}
 use Rattle.mq_law_events.proofs.Putting.{rows_after}
 use Rattle.mq_law_events.proofs.Taking.{removed_all, many_follow, got_follows}
 use Rattle.mq_law_found.specs.Finds.{since, posted_again, stopped_call, PartNotes}
-use Rattle.mq_law_found.proofs.Finding.{told_since, told_then, in_moment, moments_back, from_log}
-use Rattle.mq_law_found.proofs.Again.{part_given, steady_lasts, rises}
+use Rattle.mq_law_events.proofs.Events.{from_log}
+use Rattle.mq_law_found.proofs.Finding.{told_since, told_then, in_moment, moments_back}
+use Rattle.mq_law_found.proofs.Again.{steady_lasts, rises}
 
 -- Which idents stand
 

@@ -45,7 +45,8 @@ use Rattle.mq_law_log.proofs.Commanded.{command_harmless}
 use Rattle.mq_law_log.proofs.Founds.{found_sound}
 use Rattle.mq_law_events.proofs.Calling.{objects_follow_by, planned_empties}
 use Rattle.mq_law_found.specs.Finds.{since, IsNoted, stopped_call, PartNotes, StepNotes}
-use Rattle.mq_law_found.proofs.Finding.{tested_with, none_noted, one_noted, told_since, told_then, in_moment, from_log}
+use Rattle.mq_law_events.proofs.Events.{from_log}
+use Rattle.mq_law_found.proofs.Finding.{tested_with, none_noted, one_noted, told_since, told_then, in_moment}
 use Rattle.mq_law_found.proofs.Going.{left_row}
 
 -- A change does the same to a manager that is up and to one that is down

@@ -31,14 +31,15 @@ use Rattle.mq_law_rows.proofs.Lists.{ident_self}
 use Rattle.mq_law_manager.specs.Facts.{IsSound}
 use Rattle.mq_law_manager.specs.Kept.{StepKeeps}
 use Rattle.mq_law_manager.proofs.Stocks.{put_defined}
+use Rattle.mq_law_manager.proofs.Untouched.{part_given}
 use Rattle.mq_law_log.proofs.Landings.{placed_steady}
 use Rattle.mq_law_events.specs.Tied.{connection_told, IsTold, Follow}
 use Rattle.mq_law_events.proofs.Telling.{handle_at_told, one_handle}
 use Rattle.mq_law_events.proofs.Putting.{put_follows}
-use Rattle.mq_law_events.proofs.Events.{lives, some_connection, put_by_is}
+use Rattle.mq_law_events.proofs.Events.{from_log, lives, put_by_is, some_connection}
 use Rattle.mq_law_found.specs.Finds.{since, posted_again, stopped_call, PartNotes, StepNotes}
-use Rattle.mq_law_found.proofs.Finding.{tested_with, live_with, open_with, one_noted, told_since, told_then, told_gone, timed_then, in_moment, from_log}
-use Rattle.mq_law_found.proofs.Again.{part_given, steady_lasts, rises}
+use Rattle.mq_law_found.proofs.Finding.{tested_with, live_with, open_with, one_noted, told_since, told_then, told_gone, timed_then, in_moment}
+use Rattle.mq_law_found.proofs.Again.{steady_lasts, rises}
 
 -- the record of a put adds its message
 abbrev adds : Ident → Option LogRecord → Bool

@@ -26,13 +26,15 @@ use Rattle.mq_law_rows.proofs.Lists.{bool_case}
 use Rattle.mq_law_manager.specs.Facts.{IsSound}
 use Rattle.mq_law_manager.proofs.Resolving.{route_stands, end_there}
 use Rattle.mq_law_manager.proofs.Stocks.{bare_kind}
+use Rattle.mq_law_manager.proofs.Untouched.{part_given}
 use Rattle.mq_law_log.proofs.Landings.{placed_steady}
 use Rattle.mq_law_log.proofs.Placings.{has_mapped}
 use Rattle.mq_law_events.specs.Tied.{Follow}
 use Rattle.mq_law_events.proofs.Moving.{move_once_told, moved, bare_ident}
 use Rattle.mq_law_found.specs.Finds.{since, PartNotes}
-use Rattle.mq_law_found.proofs.Finding.{told_since, told_then, in_moment, from_log}
-use Rattle.mq_law_found.proofs.Again.{part_given, steady_lasts, rises}
+use Rattle.mq_law_events.proofs.Events.{from_log}
+use Rattle.mq_law_found.proofs.Finding.{told_since, told_then, in_moment}
+use Rattle.mq_law_found.proofs.Again.{steady_lasts, rises}
 use Rattle.mq_law_found.proofs.Going.{lasting_row}
 
 forced_persists : (from : List ℕ) (l : Landing) (r : LogRecord) → moved_forced from l ≡ Some r → is_persistent l.message ≡ true

@@ -24,9 +24,9 @@ use Rattle.mq_spec_node.specs.Deeds.{CanCome, Deed, Done, done}
 use Rattle.mq_spec_node.specs.Replays.{IsOwn}
 use Rattle.mq_spec_node.specs.Happens as happens
 use Rattle.mq_spec_node.specs.Happens.{IsDeed, IsEvent, choice_event, crashed, deed_of, event, remembering, timeout_of, turn_up, where_up}
+use Rattle.mq_law_manager.proofs.Untouched.{parts_running}
 use Rattle.mq_law_node.specs.Deeds.{DeedHas, HoldsBehind, HoldsUp, IsLasting}
 use Rattle.mq_law_node.proofs.NearTotal.{remembered_ends}
-use Rattle.mq_law_node.proofs.Standing.{running_done_all}
 
 -- EACH DEED
 up : (has : Option Deed → Type 0) (r : Running) (o : Option Deed) → has None → has o → has (where_up r o)
@@ -51,7 +51,7 @@ stopped_down zero (part ∷ parts) left p w e = cc
 stopped_down (suc k) (part ∷ parts) left p w e = stopped_down k parts left (do_part part p) w e
 
 chosen : (holds : List ChannelEnd → Plain → Type 0) (n : Node) (d : Deed) (choice : Choice) → CanCome d choice n → (n.manager.running ≡ Up → HoldsBehind holds n (Some d)) → HoldsUp holds n → HoldsUp holds (done d choice n).next
-chosen holds n d Runs can f w on = f (sym (running_done_all d.parts n.manager) ∙ on)
+chosen holds n d Runs can f w on = f (sym (parts_running d.parts n.manager) ∙ on)
 chosen holds n d NoMemory can f w on = w on
 chosen holds n d (Stopped by_ k left) can f w on = absurd (stopped_down k d.parts left n.manager can.0 on)
 

@@ -1,6 +1,5 @@
 pub mod Named
 pub mod DataLaws
-pub mod Standing
 pub mod Batches
 pub mod SenderTurns
 pub mod SenderTable
@@ -29,3 +28,4 @@ pub mod Openings
 pub mod FarAside
 pub mod NearDoes
 pub mod Deeds
+pub mod Letters

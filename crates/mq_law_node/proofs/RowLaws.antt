@@ -1,6 +1,6 @@
 -- Each change does to the rows of each queue what its kind says.
-use Rattle.std.proofs.Common.{ℕ, ◌≡◌, true, false, List, [], ◌∷◌, refl, ap, sym, ◌∙◌}
-use Rattle.std.specs.Prelude.{Some, if◌then◌else◌, filter, not, ◌&&◌}
+use Rattle.std.proofs.Common.{ℕ, ◌≡◌, true, false, List, refl, ap, sym, ◌∙◌}
+use Rattle.std.specs.Prelude.{Some, if◌then◌else◌, not, ◌&&◌}
 use Rattle.std.specs.Str.{bytes_eq}
 use Rattle.mq_queue.specs.declared.row.Row.{Row}
 use Rattle.mq_queue.specs.Rows.{keep, retag, is_free}
@@ -11,21 +11,8 @@ use Rattle.mq_calls.specs.Reads.{queue_in, stored}
 use Rattle.mq_calls.specs.Condition.{condition}
 use Rattle.mq_calls.specs.Changes.{apply, set_queue, lane_of, placed_in, kept_in, held_in, released_in, selects, retag_if, release_if, try_if, made_due, depth_type, forgotten}
 use Rattle.mq_law_node.specs.Rows.{RowKind, Same, Placed, Emptied, row_kind, rows_do, rows_at}
-use Rattle.mq_law_node.proofs.Named.{bool_case, name_is, set_here, set_behind, queue_set}
-use Rattle.mq_law_node.proofs.Batches.{queue_mapped}
-
--- a stored queue has the name by which it is found
-pub found_name : (name : List ℕ) (qs : List Queue) → (queue_in name qs).name ≡ name
-found_name name [] = refl
-found_name name (q ∷ qs) = bool_case (bytes_eq name q.name) (λ b. (if b then q else queue_in name qs).name ≡ name) (λ e. sym (name_is name q.name e)) (λ e. found_name name qs)
-
-pub queue_dropped : (name other : List ℕ) (qs : List Queue) → queue_in name (filter (λ (q : Queue). not (bytes_eq other q.name)) qs) ≡ (if bytes_eq name other then fresh_queue name else queue_in name qs)
-queue_dropped name other [] = bool_case (bytes_eq name other) (λ b. fresh_queue name ≡ (if b then fresh_queue name else fresh_queue name)) (λ e. refl) (λ e. refl)
-queue_dropped name other (q ∷ qs) = bool_case (bytes_eq other q.name)
-    (λ b. queue_in name (if not b then q ∷ filter (λ (x : Queue). not (bytes_eq other x.name)) qs else filter (λ (x : Queue). not (bytes_eq other x.name)) qs)
-    ≡ (if bytes_eq name other then fresh_queue name else (if bytes_eq name q.name then q else queue_in name qs)))
-    (λ e. queue_dropped name other qs ∙ set_here name other q.name (fresh_queue name) q (queue_in name qs) e)
-    (λ e. ap (λ (x : Queue). if bytes_eq name q.name then q else x) (queue_dropped name other qs) ∙ set_behind name other q.name (fresh_queue name) q (queue_in name qs) e)
+use Rattle.mq_law_manager.proofs.Named.{found_name, queue_dropped, queue_mapped}
+use Rattle.mq_law_node.proofs.Named.{bool_case, name_is, queue_set}
 
 -- a queue that is set anew, whose rows are told
 pub rows_set : (name other : List ℕ) (new : Queue) (p : Plain) (k : RowKind) → new.name ≡ other → new.rows ≡ rows_do k (stored other p).arrivals (stored other p).rows

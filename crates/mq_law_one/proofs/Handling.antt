@@ -1,7 +1,6 @@
 -- Turns of the dead-letter handler: the ledger follows.
 use Rattle.std.proofs.Common.{ℕ, ◌≡◌, ◌⊎◌, Bool, true, false, not, List, [], ◌∷◌, ◌++◌, refl, ap, sym, subst, ◌∙◌, inl, inr}
-use Rattle.std.specs.Prelude.{Option, Some, None, Result, Ok, Err, ◌+◌, if◌then◌else◌, ◌&&◌, slice_get, filter, find, length, codes}
-use Rattle.std.specs.Str.{bytes_eq}
+use Rattle.std.specs.Prelude.{Option, Some, None, Result, Ok, Err, ◌+◌, slice_get, filter, length}
 use Rattle.std.specs.Option.{option_map}
 use Rattle.mq_message.specs.declared.message.Dest.{Dest}
 use Rattle.mq_message.specs.declared.message.Ident.{Ident}
@@ -9,9 +8,8 @@ use Rattle.mq_message.specs.declared.message.Message.{Message}
 use Rattle.mq_codes.specs.declared.reason.Reason.{Reason}
 use Rattle.mq_codes.specs.declared.reason.Reason.TheVariants as reasons
 use Rattle.mq_queue.specs.declared.row.Row.{Row}
-use Rattle.mq_queue.specs.Rows.{has_ident, same_ident, is_free}
-use Rattle.mq_objects.specs.declared.object.LocalQueue.{LocalQueue}
-use Rattle.mq_objects.specs.Names.{local_of, is_transmission}
+use Rattle.mq_queue.specs.Rows.{has_ident}
+use Rattle.mq_objects.specs.Names.{local_of}
 use Rattle.mq_resolve.specs.declared.route.Route.{Route}
 use Rattle.mq_resolve.specs.Resolved.{resolve}
 use Rattle.mq_calls.specs.declared.choices.Choice.{Choice}
@@ -34,10 +32,8 @@ use Rattle.mq_calls.specs.Steps.{Step, Part, when, delta_of, do_part, do_all, lo
 use Rattle.mq_calls.specs.Steps.Step.{Refuse, Do}
 use Rattle.mq_spec_manager.specs.Get.{removal_parts}
 use Rattle.mq_spec_manager.specs.Triggers.{Never}
-use Rattle.mq_spec_manager.specs.Conditions.{is_ordinary, HasFreeRow}
 use Rattle.mq_spec_manager.specs.Landing.{Landing, landing, route_tests}
 use Rattle.mq_spec_manager.specs.Moves.{bare_if, move_part, move_full, moved_forced, move_resolved, move_found, move_row, discard}
-use Rattle.mq_spec_manager.specs.Heads.{is_dead}
 use Rattle.mq_spec_node.specs.Node.{Node, Own, Handler, with_handler}
 use Rattle.mq_spec_node.specs.Deeds.{Deed, told, parts_of, CanCome, forgotten_rows}
 use Rattle.mq_spec_node.specs.Handlers as handlers
@@ -46,13 +42,12 @@ use Rattle.mq_spec_network.specs.Ledger as ledgers
 use Rattle.mq_spec_network.specs.Ledger.{Ledger, posted, take_all_gone, move_all, received_on, receive_if}
 use Rattle.mq_spec_network.specs.Story.{Mem}
 use Rattle.mq_law_rows.specs.World.{ident_of}
-use Rattle.mq_law_rows.proofs.Lists.{bool_case, ident_yes, ident_self}
+use Rattle.mq_law_rows.proofs.Lists.{ident_yes}
 use Rattle.mq_law_manager.specs.Kept.{AllKeep, StepKeeps}
-use Rattle.mq_law_manager.specs.Facts.{IsSound, Differ}
+use Rattle.mq_law_manager.specs.Facts.{IsSound}
 use Rattle.mq_law_manager.proofs.Ending.{joined}
 use Rattle.mq_law_manager.proofs.Handling.{move_row_keeps, discard_keeps}
 use Rattle.mq_law_manager.proofs.Lists.{one_row}
-use Rattle.mq_law_manager.proofs.Steps.{free_is}
 use Rattle.mq_law_manager.proofs.Stocks.{move_stocked, discard_stocked}
 use Rattle.mq_law_events.specs.Tied.{AreShelved, IsTold, IsFresh, Follow}
 use Rattle.mq_law_events.specs.Posting.{StopFollows}
@@ -63,6 +58,7 @@ use Rattle.mq_law_events.proofs.Moving.{move_follows, moved, bare_ident}
 use Rattle.mq_law_events.proofs.Serving.{discard_follows}
 use Rattle.mq_law_events.proofs.Taking.{removed_all}
 use Rattle.mq_law_manager.proofs.Removals.{mem_filter, differ_filter}
+use Rattle.mq_law_node.proofs.Letters.{IsLetter, can_move, found_one, free_row, letter_of}
 use Rattle.mq_law_found.specs.Finds.{StepNotes}
 use Rattle.mq_law_found.proofs.Finding.{one_noted}
 use Rattle.mq_law_found.proofs.Getting.{removals_noted, discard_posts}
@@ -73,48 +69,6 @@ use Rattle.mq_law_one.proofs.Happening.{Deeded, entry_of, nothing, step_happens}
 -- what a turn posts
 abbrev post_turn : ℕ → List Did → Ledger → Ledger
 post_turn m ds l = receive_if m (received_on ds) [] ds (move_all m ds l)
-
--- Rows that are found
-
-find_mem : (test : Row → Bool) (rows : List Row) (x : Row) → find test rows ≡ Some x → Mem x rows × (test x ≡ true)
-find_mem test [] x e = absurd cc
-find_mem test (r ∷ rows) x e = bool_case (test r) (λ t. test r ≡ t → (if t then Some r else find test rows) ≡ Some x → Mem x (r ∷ rows) × (test x ≡ true))
-    (λ z w f. let is : r ≡ x = cc in (inl (sym is), ap test (sym is) ∙ w)) (λ z w f. let k = find_mem test rows x f in (inr k.0, k.1)) refl e
-
-find_one : (rows : List Row) (x : Row) → Differ ident_of rows → Mem x rows → find (has_ident x.message.ident) rows ≡ Some x
-find_one [] x d n = absurd n
-find_one (r ∷ rows) x d (inl e) = ap (λ t. if t then Some r else find (has_ident x.message.ident) rows) (ap (λ (y : Row). same_ident y.message.ident x.message.ident) (sym e) ∙ ident_self x.message.ident) ∙ ap (λ y. Some y) (sym e)
-find_one (r ∷ rows) x d (inr n) = bool_case (same_ident r.message.ident x.message.ident) (λ t. same_ident r.message.ident x.message.ident ≡ t → (if t then Some r else find (has_ident x.message.ident) rows) ≡ Some x)
-    (λ z w. absurd (d.0 x n (ident_yes r.message.ident x.message.ident w))) (λ z w. find_one rows x d.1 n) refl
-
-and_one : (a b : Bool) → (a && b) ≡ true → a ≡ true
-and_one true b e = refl
-and_one false b e = absurd cc
-
-and_two : (a b : Bool) → (a && b) ≡ true → b ≡ true
-and_two true b e = e
-and_two false b e = absurd cc
-
-ordinary_of : (o : Option LocalQueue) → handlers.is_readable o ≡ true → is_ordinary o ≡ true
-ordinary_of None e = absurd cc
-ordinary_of (Some q) e = and_two q.get_enabled (not (is_transmission q.usage)) e
-
--- a dead letter that is handled
-record IsLetter (q : List ℕ) (p : Plain) (x : Row) : Type 0 where
-  there : Mem x (stored q p).rows
-  free : x.by ≡ None
-  ordinary : is_ordinary (local_of q p.definitions) ≡ true
-  dead : is_dead x.message.body ≡ true
-
-letter_of : (q : List ℕ) (h : Handler) (p : Plain) (x : Row) → handlers.is_readable (local_of q p.definitions) ≡ true → handlers.next_letter q h p ≡ Some x → IsLetter q p x
-letter_of q h p x readable e =
-    let k = find_mem (handlers.is_handled q h p) (stored q p).rows x e in
-    let letter : handlers.is_letter x ≡ true = and_one (handlers.is_letter x) (handlers.is_due p.moment (handlers.tries_of q x.message.ident h)) k.1 in
-    let first = and_one (is_free x && bytes_eq x.message.md.format (codes "MQDEAD  ")) (is_dead x.message.body) letter in
-    record { there = k.0; free = free_is x (and_one (is_free x) (bytes_eq x.message.md.format (codes "MQDEAD  ")) first); ordinary = ordinary_of (local_of q p.definitions) readable; dead = and_two (is_free x && bytes_eq x.message.md.format (codes "MQDEAD  ")) (is_dead x.message.body) letter }
-
-abbrev free_row : (q : List ℕ) (p : Plain) (x : Row) → IsSound p → IsLetter q p x → HasFreeRow q x.message.ident p
-free_row q p x h k = record { row = x; ordinary = k.ordinary; found = find_one (stored q p).rows x (h.facts.apart.once q) k.there; free = k.free }
 
 -- What a turn is: an answer alone, or parts that the ledger follows
 
@@ -182,7 +136,7 @@ part_follows m given p l q x to bare route (Some r) f t n free is =
 
 move_fits : (m : ℕ) (given : Ident → Bool) (p : Plain) (l : Ledger) (q : List ℕ) (x : Row) (to : Dest) (bare : Bool) → IsFresh given p → IsTold m p l → IsSound p → IsLetter q p x → MoveFits m given p l (move_row q x.message.ident to bare p)
 move_fits m given p l q x to bare f t h k =
-    subst (λ (o : Option Message). MoveFits m given p l (move_found q to bare o p)) (sym (ap (option_map (λ (row : Row). row.message)) (find_one (stored q p).rows x (h.facts.apart.once q) k.there)))
+    subst (λ (o : Option Message). MoveFits m given p l (move_found q to bare o p)) (sym (ap (option_map (λ (row : Row). row.message)) (found_one (stored q p).rows x (h.facts.apart.once q) k.there)))
     (go (resolve p.definitions p.given.name to.queue to.qmgr) refl)
   where
     go : (r : Result Route Reason) → resolve p.definitions p.given.name to.queue to.qmgr ≡ r → MoveFits m given p l (move_resolved q to bare r (bare_if bare x.message) p)
@@ -207,8 +161,8 @@ moves : (m : ℕ) (given : Ident → Bool) (p : Plain) (l : Ledger) (own : Own) 
     → TurnFits m given p l own (handlers.moved q x.message n rule tries h p own (move_row q x.message.ident to bare p))
 moves m given p l own q x n rule tries h to bare f t sound k =
     combine m given p l own q x.message n rule tries h (move_row q x.message.ident to bare p) f t (move_fits m given p l q x to bare f t sound k)
-    (joined (move_row q x.message.ident to bare p) p sound (move_row_keeps q x.message.ident to bare p sound.facts (record { free = free_row q p x sound k; dead = λ e. k.dead }))
-    (move_stocked q x.message.ident to bare p (record { free = free_row q p x sound k; dead = λ e. k.dead }) sound.facts sound.stocked))
+    (joined (move_row q x.message.ident to bare p) p sound (move_row_keeps q x.message.ident to bare p sound.facts (can_move q p x bare sound k))
+    (move_stocked q x.message.ident to bare p (can_move q p x bare sound k) sound.facts sound.stocked))
 
 -- by the rule in force
 abbrev own_ignored : List ℕ → Ident → Handler → Own → Own

@@ -36,11 +36,11 @@ pub after_more : (n : Node) (xs ys : List Entry) → after n (xs ++ ys) ≡ afte
 after_more n [] ys = refl
 after_more n (x ∷ xs) ys = after_more (done_by x n).next xs ys
 
-follows_front : (n : Node) (last : ℕ) (xs ys : List Entry) → Follows n last (xs ++ ys) → Follows n last xs
+pub follows_front : (n : Node) (last : ℕ) (xs ys : List Entry) → Follows n last (xs ++ ys) → Follows n last xs
 follows_front n last [] ys h = tt
 follows_front n last (x ∷ xs) ys h = (h.0, follows_front (done_by x n).next x.stamp xs ys h.1)
 
-tells_last : (n : Node) (last : ℕ) (xs : List Entry) (e : Entry) → Follows n last (xs ++ e ∷ []) → (stamp : ℕ) × Tells (after n xs) stamp e
+pub tells_last : (n : Node) (last : ℕ) (xs : List Entry) (e : Entry) → Follows n last (xs ++ e ∷ []) → (stamp : ℕ) × Tells (after n xs) stamp e
 tells_last n last [] e h = (last, h.0)
 tells_last n last (x ∷ xs) e h = tells_last (done_by x n).next x.stamp xs e h.1
 

@@ -7,7 +7,7 @@ use Rattle.mq_codes.specs.declared.reason.Reason.TheVariants as reasons
 use Rattle.mq_frame.specs.declared.frame.Seen.{Seen}
 use Rattle.mq_message.specs.declared.message.Ident.{Ident}
 use Rattle.mq_message.specs.declared.message.Message.{Message}
-use Rattle.mq_objects.specs.Names.{is_transmission, local_of, locals_of, process_of}
+use Rattle.mq_objects.specs.Names.{is_transmission, local_of, locals_of, process_of, channel_of}
 use Rattle.mq_objects.specs.declared.object.Definitions.{Definitions}
 use Rattle.mq_objects.specs.declared.object.LocalQueue.{LocalQueue}
 use Rattle.mq_objects.specs.declared.object.Process.{Process}
@@ -30,7 +30,6 @@ use Rattle.mq_calls.specs.Steps.Step.{Do, Refuse}
 use Rattle.mq_spec_manager.specs.Handles.{is_transmission_queue}
 use Rattle.mq_spec_manager.specs.Put.{placed, queue_at}
 use Rattle.mq_spec_manager.specs.Triggers.{first_due, put_trigger, serve, serve_by, serve_into, takes_it, trigger_at, trigger_turn}
-use Rattle.mq_objects.specs.Names.{channel_of}
 use Rattle.mq_spec_manager.specs.Agents.{Landed, Landing, Standing, before, can_take_dead, dead_letter, dead_or, drop_row, is_present, land, land_changes, land_resolved, land_tested, landed, landed_by, landed_unless, names_of, receive, receive_landed, received_part, received_record, route_tests, standing_at, undoubted, uses_dead}
 use Rattle.mq_spec_manager.specs.Standing.Standing.{Absent, InDoubtAt, Present}
 use Rattle.mq_spec_node.specs.Node.{Node, ReceiverEnd}
@@ -39,8 +38,9 @@ use Rattle.mq_spec_node.specs.Calls.{trigger_deed, trigger_deed_of, where_up}
 use Rattle.mq_spec_node.specs.Receivers.{is_receiver_defined, place_deed, receiver_deed, receiver_deed_by}
 use Rattle.mq_law_manager.proofs.Stocks.{local_named}
 use Rattle.mq_law_node.proofs.Named.{name_is}
-use Rattle.mq_law_pump.specs.Others.{AllGoElsewhere, EachAddsNone, GoesElsewhere, all_add_none, parts_add_none}
-use Rattle.mq_law_pump.proofs.OtherDeeds.{StepAddsNone, changes_behind, refused_none}
+use Rattle.mq_law_pump.specs.Others.{AllGoElsewhere, EachAddsNone, GoesElsewhere, all_add_none, parts_add_none, adds_none}
+use Rattle.mq_law_seized.proofs.Each.{all_behind}
+use Rattle.mq_law_pump.proofs.OtherDeeds.{StepAddsNone, refused_none}
 
 clash : (b : Bool) → b ≡ true → b ≡ false → ⊥
 clash b x y = absurd cc
@@ -108,7 +108,7 @@ drops_none channel q i Present true = refl
 drops_none channel q i Present false = refl
 
 land_none : (channel q : List ℕ) (l : Landing) (s : Standing) → bytes_eq q l.queue ≡ false → all_add_none channel q (land_changes l s) ≡ true
-land_none channel q l s away = changes_behind channel q (drop_row l.message.ident s ++ undoubted (is_persistent l.message) l.message.ident) (placed l.queue l.message)
+land_none channel q l s away = all_behind (adds_none channel q) (drop_row l.message.ident s ++ undoubted (is_persistent l.message) l.message.ident) (placed l.queue l.message)
     (drops_none channel q l.message.ident s (is_persistent l.message)) (ap (λ (b : Bool). not b && true) away)
 
 -- definitions and the manager's name stay
@@ -129,7 +129,7 @@ land_keeps q m i Present false p = tries _ q _
 
 before_none : (channel q : List ℕ) (m : Message) (l : Landing) (s : Standing) (r : Result Landed Reason) → bytes_eq q l.queue ≡ false → LandsNone channel q r → LandsNone channel q (before m l s r)
 before_none channel q m l s (Err reason) away h = tt
-before_none channel q m l s (Ok rest) away h = changes_behind channel q (land_changes l s) rest.changes (land_none channel q l s away) h
+before_none channel q m l s (Ok rest) away h = all_behind (adds_none channel q) (land_changes l s) rest.changes (land_none channel q l s away) h
 
 by_none : (channel q : List ℕ) (r : Result Landing Reason) (m : Message) (s : Standing) (p : Plain) (rest : Plain → Result Landed Reason) → LandsElsewhere q r → ((v : Plain) → Keeps p v → LandsNone channel q (rest v)) → LandsNone channel q (landed_by r m s p rest)
 by_none channel q (Err reason) m s p rest away h = tt
@@ -149,7 +149,7 @@ landed_none channel q ch (m ∷ ms) p d g defs given xmit away =
 receive_none : (channel q ch : List ℕ) (unit : Luw) (last : ℕ) (r : Result Landed Reason) (p : Plain) → LandsNone channel q r → StepAddsNone channel q (receive_landed ch unit last r p)
 receive_none channel q ch unit last (Err reason) p h = tt
 receive_none channel q ch unit last (Ok l) p h = refused_none channel q (if is_full (need (received_record ch unit last l)) p then Some reasons.ResourceProblem else None) (Do tt (received_part ch unit last l p ∷ []))
-    (ap (λ (b : Bool). b && true) (changes_behind channel q l.changes (SetReceiver ch (record (receiver_or (receiver_data ch p)) { unit = unit; last = last }) ∷ []) h refl))
+    (ap (λ (b : Bool). b && true) (all_behind (adds_none channel q) l.changes (SetReceiver ch (record (receiver_or (receiver_data ch p)) { unit = unit; last = last }) ∷ []) h refl))
 
 -- RECEIVERS
 place_none : (channel q : List ℕ) (e : ReceiverEnd) (unit : Luw) (seen : Seen) (s : Step Reason (Unit {0})) (n : Node) → StepAddsNone channel q s → EachAddsNone channel q (Some (place_deed e unit seen s n))

@@ -1,6 +1,6 @@
 -- A sender that runs on keeps its queue, and no row comes to it: by its own turns, and by what others do.
 use Rattle.std.proofs.Common.{ℕ, ◌≡◌, Bool, true, false, List, [], ◌∷◌, ◌++◌, refl, ap, sym, subst, ◌∙◌, append-nil}
-use Rattle.std.specs.Prelude.{if◌then◌else◌, Option, Some, None, ◌&&◌, not}
+use Rattle.std.specs.Prelude.{if◌then◌else◌, Option, Some, None, ◌&&◌, not, filter}
 use Rattle.std.specs.Str.{bytes_eq}
 use Rattle.mq_calls.specs.declared.agents.Note.TheVariants as notes
 use Rattle.mq_calls.specs.declared.agents.PrepareFault.{PrepareFault}
@@ -28,9 +28,9 @@ use Rattle.mq_sync.specs.Settlement.{sender_or}
 use Rattle.mq_sync.specs.Units.{unit_named}
 use Rattle.mq_sync.specs.declared.unit.Settle.{Settle}
 use Rattle.mq_sync.specs.declared.unit.Settle.TheVariants as settles
-use Rattle.mq_calls.specs.Changes.{apply, apply_all, lane_of, release_if, retag_if, selects, try_if}
+use Rattle.mq_calls.specs.Changes.{apply, lane_of, release_if, retag_if, selects, try_if}
 use Rattle.mq_calls.specs.Condition.{condition}
-use Rattle.mq_calls.specs.Reads.{batch_of, is_full, sender_data, stored}
+use Rattle.mq_calls.specs.Reads.{batch_of, is_full, sender_data, stored, seizure_of}
 use Rattle.mq_calls.specs.Sizes.{need}
 use Rattle.mq_calls.specs.State.{Change, Plain}
 use Rattle.mq_calls.specs.State.Change.{DropQueue, ForgetAll, Hold, Leave, Place, Release, Renew, Seize, SetBound, Try, Unseize}
@@ -42,15 +42,15 @@ use Rattle.mq_spec_node.specs.Deeds.{parts_of}
 use Rattle.mq_spec_node.specs.Node.{Node, SenderEnd, end_in, with_end}
 use Rattle.mq_spec_node.specs.Node.ChannelEnd.{Sends}
 use Rattle.mq_spec_node.specs.Senders.{after_timeout, leave_if_stopped, prepare_deed, sender_deed, sender_deed_by, sent, settle_parts_if, timeout_deed}
-use Rattle.mq_law_channel.proofs.Told.{and_both}
+use Rattle.mq_law_seized.proofs.Each.{kept_behind, parts_keep, parts_weaker}
 use Rattle.mq_law_node.specs.Rows.{RowKind, row_kind, rows_at, rows_do}
 use Rattle.mq_law_node.proofs.Aside.{not_true}
-use Rattle.mq_law_node.proofs.Named.{bool_case, end_set}
+use Rattle.mq_law_node.proofs.Named.{bool_case, end_set, name_is}
 use Rattle.mq_law_node.proofs.RowLaws.{rows_applied}
 use Rattle.mq_law_pump.specs.Away.{IsAway, RowsAway}
-use Rattle.mq_law_pump.specs.Leaves.{EachLeavesOwn, all_leave, leaves, parts_leave}
-use Rattle.mq_law_pump.specs.Others.{adds_none, all_add_none, parts_add_none}
-use Rattle.mq_law_pump.proofs.Openings.{logged_open, seizure_stays}
+use Rattle.mq_law_pump.specs.Leaves.{EachLeavesOwn, leaves, parts_leave}
+use Rattle.mq_law_pump.specs.Others.{adds_none, parts_add_none}
+use Rattle.mq_calls.specs.declared.state.Seizure.{Seizure}
 
 -- ROWS STAY AWAY
 kept_away : (n : Node) (test : Row → Bool) (rows : List Row) → RowsAway n rows → RowsAway n (keep test rows)
@@ -87,23 +87,29 @@ done_away n channel q (Renew other) p h away = if_emptied n (bytes_eq q other) (
 done_away n channel q (DropQueue other) p h away = if_emptied n (bytes_eq q other) (stored q p).arrivals (rows_at q p) away
 done_away n channel q c p h away = away
 
-changes_away : (n : Node) (channel q : List ℕ) (cs : List Change) (p : Plain) → all_leave channel q cs ≡ true → RowsAway n (rows_at q p) → RowsAway n (rows_at q (apply_all cs p))
-changes_away n channel q [] p h away = away
-changes_away n channel q (c ∷ cs) p h away =
-    let b = and_both (leaves channel q c) (all_leave channel q cs) h in
-    changes_away n channel q cs (apply c p) b.1 (subst (RowsAway n) (sym (rows_applied q c p)) (done_away n channel q c p b.0 away))
-
 logged_away : (n : Node) (q : List ℕ) (o : Option LogRecord) (p : Plain) → RowsAway n (rows_at q p) → RowsAway n (rows_at q (logged o p))
 logged_away n q None p h = h
 logged_away n q (Some r) p h = h
 
 pub parts_away : (n : Node) (channel q : List ℕ) (parts : List Part) (p : Plain) → parts_leave channel q parts ≡ true → RowsAway n (rows_at q p) → RowsAway n (rows_at q (do_all parts p))
-parts_away n channel q [] p h away = away
-parts_away n channel q (part ∷ parts) p h away =
-    let b = and_both (all_leave channel q part.changes) (parts_leave channel q parts) h in
-    parts_away n channel q parts (apply_all part.changes (logged part.forced p)) b.1 (changes_away n channel q part.changes (logged part.forced p) b.0 (logged_away n q part.forced p away))
+parts_away n channel q parts p h away = kept_behind (λ v. RowsAway n (rows_at q v)) parts p away (parts_keep (leaves channel q) (λ v. RowsAway n (rows_at q v))
+    (λ c v z g. subst (RowsAway n) (sym (rows_applied q c v)) (done_away n channel q c v z g)) (λ o v g. logged_away n q o v g) parts p h away)
 
 -- THE QUEUE STAYS OPEN
+seizure_stays : (channel other : List ℕ) (ss : List Seizure) → bytes_eq channel other ≡ false → seizure_of channel (filter (λ (s : Seizure). not (bytes_eq other s.channel)) ss) ≡ seizure_of channel ss
+seizure_stays channel other [] apart = refl
+seizure_stays channel other (s ∷ ss) apart = one (bytes_eq other s.channel) refl (seizure_stays channel other ss apart)
+  where
+    one : (b : Bool) → bytes_eq other s.channel ≡ b → seizure_of channel (filter (λ (x : Seizure). not (bytes_eq other x.channel)) ss) ≡ seizure_of channel ss
+        → seizure_of channel (filter (λ (x : Seizure). not (bytes_eq other x.channel)) (s ∷ ss)) ≡ seizure_of channel (s ∷ ss)
+    one true is h =
+        let away : bytes_eq channel s.channel ≡ false = ap (bytes_eq channel) (sym (name_is other s.channel is)) ∙ apart in
+        ap (λ (b : Bool). seizure_of channel (if not b then s ∷ filter (λ (x : Seizure). not (bytes_eq other x.channel)) ss else filter (λ (x : Seizure). not (bytes_eq other x.channel)) ss)) is
+        ∙ h ∙ ap (λ (b : Bool). if b then Some s else seizure_of channel ss) (sym away)
+    one false is h =
+        ap (λ (b : Bool). seizure_of channel (if not b then s ∷ filter (λ (x : Seizure). not (bytes_eq other x.channel)) ss else filter (λ (x : Seizure). not (bytes_eq other x.channel)) ss)) is
+        ∙ ap (λ (o : Option Seizure). if bytes_eq channel s.channel then Some s else o) h
+
 tries_open : (channel name : List ℕ) (b : Bool) (p : Plain) → queue_of_sender channel (try_if b name p) ≡ queue_of_sender channel p
 tries_open channel name true p = refl
 tries_open channel name false p = refl
@@ -117,23 +123,15 @@ change_open channel q (Seize s) p h = absurd cc
 change_open channel q ForgetAll p h = absurd cc
 change_open channel q c p h = refl
 
-changes_open : (channel q : List ℕ) (cs : List Change) (p : Plain) → all_leave channel q cs ≡ true → queue_of_sender channel (apply_all cs p) ≡ queue_of_sender channel p
-changes_open channel q [] p h = refl
-changes_open channel q (c ∷ cs) p h =
-    let b = and_both (leaves channel q c) (all_leave channel q cs) h in
-    changes_open channel q cs (apply c p) b.1 ∙ change_open channel q c p b.0
+logged_open : (channel : List ℕ) (o : Option LogRecord) (p : Plain) → queue_of_sender channel (logged o p) ≡ queue_of_sender channel p
+logged_open channel None p = refl
+logged_open channel (Some r) p = refl
 
 pub stays_open : (channel q : List ℕ) (parts : List Part) (p : Plain) → parts_leave channel q parts ≡ true → queue_of_sender channel (do_all parts p) ≡ queue_of_sender channel p
-stays_open channel q [] p h = refl
-stays_open channel q (part ∷ parts) p h =
-    let b = and_both (all_leave channel q part.changes) (parts_leave channel q parts) h in
-    stays_open channel q parts (apply_all part.changes (logged part.forced p)) b.1 ∙ changes_open channel q part.changes (logged part.forced p) b.0 ∙ logged_open channel part.forced p
+stays_open channel q parts p h = kept_behind (λ v. queue_of_sender channel v ≡ queue_of_sender channel p) parts p refl (parts_keep (leaves channel q) (λ v. queue_of_sender channel v ≡ queue_of_sender channel p)
+    (λ c v z g. change_open channel q c v z ∙ g) (λ o v g. logged_open channel o v ∙ g) parts p h refl)
 
 -- WHAT ADDS NONE LEAVES
-both : (a b : Bool) → a ≡ true → b ≡ true → (a && b) ≡ true
-both true b x y = y
-both false b x y = absurd cc
-
 change_leaves : (channel q : List ℕ) (c : Change) → adds_none channel q c ≡ true → leaves channel q c ≡ true
 change_leaves channel q (Place other m) h = h
 change_leaves channel q (Unseize other) h = h
@@ -141,17 +139,8 @@ change_leaves channel q (Seize s) h = absurd cc
 change_leaves channel q ForgetAll h = absurd cc
 change_leaves channel q c h = refl
 
-changes_leave : (channel q : List ℕ) (cs : List Change) → all_add_none channel q cs ≡ true → all_leave channel q cs ≡ true
-changes_leave channel q [] h = refl
-changes_leave channel q (c ∷ cs) h =
-    let b = and_both (adds_none channel q c) (all_add_none channel q cs) h in
-    both (leaves channel q c) (all_leave channel q cs) (change_leaves channel q c b.0) (changes_leave channel q cs b.1)
-
 pub none_leaves : (channel q : List ℕ) (parts : List Part) → parts_add_none channel q parts ≡ true → parts_leave channel q parts ≡ true
-none_leaves channel q [] h = refl
-none_leaves channel q (part ∷ parts) h =
-    let b = and_both (all_add_none channel q part.changes) (parts_add_none channel q parts) h in
-    both (all_leave channel q part.changes) (parts_leave channel q parts) (changes_leave channel q part.changes b.0) (none_leaves channel q parts b.1)
+none_leaves channel q parts h = parts_weaker (adds_none channel q) (leaves channel q) (change_leaves channel q) parts h
 
 -- A SENDER'S OWN TURNS
 some_sends : (a b : SenderEnd) → Some (Sends a) ≡ Some (Sends b) → a ≡ b

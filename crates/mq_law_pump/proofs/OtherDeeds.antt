@@ -20,7 +20,7 @@ use Rattle.mq_sender.specs.declared.turns.SenderOut.TheVariants as outs
 use Rattle.mq_sender.specs.After.{number_sent, sender_after}
 use Rattle.mq_sender.specs.States.{awaits, is_running, timed_out}
 use Rattle.mq_sender.specs.Table.{sender_next}
-use Rattle.mq_calls.specs.State.{Change, Plain}
+use Rattle.mq_calls.specs.State.{Plain}
 use Rattle.mq_calls.specs.declared.state.Batch.{Batch}
 use Rattle.mq_calls.specs.Reads.{batch_of, is_full, sender_data}
 use Rattle.mq_calls.specs.Sizes.{need}
@@ -31,28 +31,11 @@ use Rattle.mq_spec_manager.specs.Agents.{expired_rows, leave, prepare, prepare_o
 use Rattle.mq_spec_node.specs.Node.{Node, SenderEnd}
 use Rattle.mq_spec_node.specs.Deeds.{parts_of}
 use Rattle.mq_spec_node.specs.Senders.{after_timeout, leave_if_stopped, prepare_deed, sender_deed, sender_deed_by, sent, settle_parts_if, timeout_deed}
-use Rattle.mq_law_channel.proofs.Told.{and_both}
+use Rattle.mq_law_seized.proofs.Each.{parts_behind}
 use Rattle.mq_law_node.proofs.Named.{bool_case}
 use Rattle.mq_sender.specs.Frames.{bind_frame, end_frame}
 use Rattle.mq_sync.specs.Units.{unit_named}
-use Rattle.mq_law_pump.specs.Others.{EachAddsNone, adds_none, all_add_none, parts_add_none}
-
--- PARTS BEHIND PARTS
-both : (a b : Bool) → a ≡ true → b ≡ true → (a && b) ≡ true
-both true b x y = y
-both false b x y = absurd cc
-
-pub parts_behind : (channel q : List ℕ) (xs ys : List Part) → parts_add_none channel q xs ≡ true → parts_add_none channel q ys ≡ true → parts_add_none channel q (xs ++ ys) ≡ true
-parts_behind channel q [] ys h g = g
-parts_behind channel q (x ∷ xs) ys h g =
-    let b = and_both (all_add_none channel q x.changes) (parts_add_none channel q xs) h in
-    both (all_add_none channel q x.changes) (parts_add_none channel q (xs ++ ys)) b.0 (parts_behind channel q xs ys b.1 g)
-
-pub changes_behind : (channel q : List ℕ) (xs ys : List Change) → all_add_none channel q xs ≡ true → all_add_none channel q ys ≡ true → all_add_none channel q (xs ++ ys) ≡ true
-changes_behind channel q [] ys h g = g
-changes_behind channel q (x ∷ xs) ys h g =
-    let b = and_both (adds_none channel q x) (all_add_none channel q xs) h in
-    both (adds_none channel q x) (all_add_none channel q (xs ++ ys)) b.0 (changes_behind channel q xs ys b.1 g)
+use Rattle.mq_law_pump.specs.Others.{EachAddsNone, adds_none, parts_add_none}
 
 -- TURNS OF OTHER SENDERS
 leaving : (channel q ch : List ℕ) (st : SenderState) (p : Plain) → bytes_eq channel ch ≡ false → parts_add_none channel q (leave_if_stopped ch st p) ≡ true
@@ -89,7 +72,7 @@ preparing channel q ch last (Some b) p = refused_none channel q (if is_full (nee
 
 sent_none : (channel q : List ℕ) (e : SenderEnd) (x : SenderDoes) (parts : List Part) (pushed : Option Frame) (n : Node) → bytes_eq channel e.channel ≡ false → parts_add_none channel q parts ≡ true → EachAddsNone channel q (Some (sent e x parts pushed n))
 sent_none channel q e x parts pushed n apart h =
-    parts_behind channel q parts (leave_if_stopped e.channel (sender_after e.machine x outs.Done).state n.manager) h (leaving channel q e.channel (sender_after e.machine x outs.Done).state n.manager apart)
+    parts_behind (adds_none channel q) parts (leave_if_stopped e.channel (sender_after e.machine x outs.Done).state n.manager) h (leaving channel q e.channel (sender_after e.machine x outs.Done).state n.manager apart)
 
 prepared : (channel q : List ℕ) (e : SenderEnd) (s : Step PrepareFault (Unit {0})) (n : Node) → bytes_eq channel e.channel ≡ false → StepAddsNone channel q s → EachAddsNone channel q (Some (prepare_deed e s n))
 prepared channel q e (Refuse fault) n apart h = releasing channel q e.channel (batch_of e.channel n.manager.channels.batches) n.manager apart

@@ -12,17 +12,17 @@ use Rattle.mq_queue.specs.Rows.{held_by, is_free, keep, retag, same_ident}
 use Rattle.mq_calls.specs.State.{Change, Plain}
 use Rattle.mq_calls.specs.State.Change.{DropQueue, Hold, Leave, Place, Release, Renew}
 use Rattle.mq_calls.specs.State.Which.{Among, HeldBy, HeldByUnits, Nonpersistent}
-use Rattle.mq_calls.specs.Changes.{apply, apply_all, lane_of, release_if, retag_if, selects}
+use Rattle.mq_calls.specs.Changes.{apply, lane_of, release_if, retag_if, selects}
 use Rattle.mq_calls.specs.Reads.{has_held_by_other, is_by_other, stored}
 use Rattle.mq_calls.specs.Steps.{Part, do_all, logged}
 use Rattle.mq_law_idle.specs.Counts.{free_in, held_in}
 use Rattle.mq_law_idle.proofs.Counted.{kept_rows}
-use Rattle.mq_law_channel.proofs.Told.{and_both}
+use Rattle.mq_law_seized.proofs.Each.{kept_behind, parts_keep}
 use Rattle.mq_law_node.specs.Rows.{RowKind, row_kind, rows_at, rows_do}
 use Rattle.mq_law_node.proofs.Aside.{not_true}
 use Rattle.mq_law_node.proofs.Named.{name_is}
 use Rattle.mq_law_node.proofs.RowLaws.{rows_applied}
-use Rattle.mq_law_pump.specs.Others.{NoMore, adds_none, all_add_none, parts_add_none}
+use Rattle.mq_law_pump.specs.Others.{NoMore, adds_none, parts_add_none}
 
 -- HOW ROWS MAY SHRINK
 data Shrinks (rows before : List Row) : Type 0 where
@@ -137,25 +137,13 @@ change_stays channel q c p h none =
 same_stays : (channel q : List ℕ) (p : Plain) → has_held_by_other channel q p ≡ false → Stays channel q p p
 same_stays channel q p none = record { more = record { free = omega arith; held = omega arith }; other = none }
 
-changes_stay : (channel q : List ℕ) (cs : List Change) (p : Plain) → all_add_none channel q cs ≡ true → has_held_by_other channel q p ≡ false → Stays channel q p (apply_all cs p)
-changes_stay channel q [] p h none = same_stays channel q p none
-changes_stay channel q (c ∷ cs) p h none =
-    let b = and_both (adds_none channel q c) (all_add_none channel q cs) h in
-    let one : Stays channel q p (apply c p) = change_stays channel q c p b.0 none in
-    stays_behind channel q p (apply c p) (apply_all cs (apply c p)) one (changes_stay channel q cs (apply c p) b.1 one.other)
-
 logged_stays : (channel q : List ℕ) (o : Option LogRecord) (p : Plain) → has_held_by_other channel q p ≡ false → Stays channel q p (logged o p)
 logged_stays channel q None p none = same_stays channel q p none
 logged_stays channel q (Some r) p none = record { more = record { free = omega arith; held = omega arith }; other = none }
 
 pub parts_stay : (channel q : List ℕ) (parts : List Part) (p : Plain) → parts_add_none channel q parts ≡ true → has_held_by_other channel q p ≡ false → Stays channel q p (do_all parts p)
-parts_stay channel q [] p h none = same_stays channel q p none
-parts_stay channel q (part ∷ parts) p h none =
-    let b = and_both (all_add_none channel q part.changes) (parts_add_none channel q parts) h in
-    let log : Stays channel q p (logged part.forced p) = logged_stays channel q part.forced p none in
-    let one : Stays channel q (logged part.forced p) (apply_all part.changes (logged part.forced p)) = changes_stay channel q part.changes (logged part.forced p) b.0 log.other in
-    let v : Plain = apply_all part.changes (logged part.forced p) in
-    stays_behind channel q p v (do_all parts v) (stays_behind channel q p (logged part.forced p) v log one) (parts_stay channel q parts v b.1 one.other)
+parts_stay channel q parts p h none = kept_behind (Stays channel q p) parts p (same_stays channel q p none) (parts_keep (adds_none channel q) (Stays channel q p)
+    (λ c v z s. stays_behind channel q p v (apply c v) s (change_stays channel q c v z s.other)) (λ o v s. stays_behind channel q p v (logged o v) s (logged_stays channel q o v s.other)) parts p h (same_stays channel q p none))
 
 pub parts_no_more : (channel q : List ℕ) (parts : List Part) (p : Plain) → parts_add_none channel q parts ≡ true → has_held_by_other channel q p ≡ false → NoMore (rows_at q (do_all parts p)) (rows_at q p)
 parts_no_more channel q parts p h none = (parts_stay channel q parts p h none).more

@@ -23,14 +23,13 @@ use Rattle.mq_sync.specs.declared.unit.Settle.{Settle}
 use Rattle.mq_sync.specs.declared.unit.Settle.TheVariants as settles
 use Rattle.mq_sender.specs.declared.state.Sender.{Sender}
 use Rattle.mq_sender.specs.declared.state.SenderState.{SenderState}
-use Rattle.mq_sender.specs.declared.state.SenderState.TheVariants.{Starting, Hailing, Binding, Running, Sending, Ready, Waiting}
 use Rattle.mq_sender.specs.declared.turns.SenderDoes.{SenderDoes}
 use Rattle.mq_sender.specs.declared.turns.SenderDoes.TheVariants as does
 use Rattle.mq_sender.specs.declared.turns.SenderOut.TheVariants as outs
 use Rattle.mq_sender.specs.States.{is_running}
 use Rattle.mq_sender.specs.After.{number_sent, sender_after}
 use Rattle.mq_sender.specs.Frames.{bind_frame, end_frame, pushed_by}
-use Rattle.mq_sender.specs.Table.{is_ack, is_binding, is_err, is_hailing, is_idle, is_ready, is_sending, is_starting, is_status, is_waiting, messages_sent, sender_lines, sender_next}
+use Rattle.mq_sender.specs.Table.{is_ack, is_binding, is_err, is_idle, is_sending, is_status, is_waiting, messages_sent, sender_lines, sender_next}
 use Rattle.mq_calls.specs.State.{Plain}
 use Rattle.mq_calls.specs.declared.state.Batch.{Batch}
 use Rattle.mq_calls.specs.State.Which.{Among, HeldBy}
@@ -50,6 +49,7 @@ use Rattle.mq_spec_node.specs.Senders.{begin_deed, carried, doubted, leave_if_st
 use Rattle.mq_law_idle.specs.Counts.{free_in, held_in}
 use Rattle.mq_law_idle.specs.Roads.{Road, RowsMove, SenderTurn, laid, sender_does, taken_from, waiting}
 use Rattle.mq_law_idle.proofs.Tests.{lt_yes}
+use Rattle.mq_law_channel.proofs.Sending.{binding_is, hailing_is, idle_is, ready_is, sending_runs, starting_is, waiting_is}
 use Rattle.mq_law_channel.proofs.Told.{and_both, by_lines}
 use Rattle.mq_law_node.specs.Ends.{Where, letter_of, letters_of}
 use Rattle.mq_law_node.proofs.Named.{end_set}
@@ -68,54 +68,26 @@ Says m st (does.Begin k count) = (is_running m.state ≡ true) × (count ≡ min
 Says m st (does.PushMsg index) = (is_sending m.state ≡ true) × (index ≡ messages_sent m.state + 1) × (nat_lt (messages_sent m.state) m.count ≡ true)
 Says m st _ = is_running m.state ≡ true
 
-starting_runs : (st : SenderState) → is_starting st ≡ true → is_running st ≡ true
-starting_runs Starting e = refl
-starting_runs st e = absurd cc
-
-hailing_runs : (st : SenderState) → is_hailing st ≡ true → is_running st ≡ true
-hailing_runs Hailing e = refl
-hailing_runs st e = absurd cc
-
-binding_runs : (st : SenderState) → is_binding st ≡ true → is_running st ≡ true
-binding_runs Binding e = refl
-binding_runs st e = absurd cc
-
-idle_runs : (st : SenderState) → is_idle st ≡ true → is_running st ≡ true
-idle_runs Running e = refl
-idle_runs st e = absurd cc
-
-sending_runs : (st : SenderState) → is_sending st ≡ true → is_running st ≡ true
-sending_runs (Sending sent number) e = refl
-sending_runs st e = absurd cc
-
-ready_runs : (st : SenderState) → is_ready st ≡ true → is_running st ≡ true
-ready_runs Ready e = refl
-ready_runs st e = absurd cc
-
-waiting_runs : (st : SenderState) → is_waiting st ≡ true → is_running st ≡ true
-waiting_runs Waiting e = refl
-waiting_runs st e = absurd cc
-
 says : (m : Sender) (seen : Seen) (st : Stock) → Says m st (sender_next m seen st)
 says m seen st = by_lines (Says m st) does.Still (sender_lines m seen st) (
-  (λ e. binding_runs m.state (and_both (is_binding m.state) (is_status m.kept.session seen) e).0),
+  (λ e. ap is_running (binding_is m.state (and_both (is_binding m.state) (is_status m.kept.session seen) e).0)),
   λ x1. (
-    (λ e. waiting_runs m.state (and_both (is_waiting m.state) (is_ack m.kept.doubt seen) e).0),
+    (λ e. ap is_running (waiting_is m.state (and_both (is_waiting m.state) (is_ack m.kept.doubt seen) e).0)),
     λ x2. (
-      (λ e. waiting_runs m.state (and_both (is_waiting m.state) (is_err m.kept.doubt seen) e).0),
+      (λ e. ap is_running (waiting_is m.state (and_both (is_waiting m.state) (is_err m.kept.doubt seen) e).0)),
       λ x3. (
         (λ e. tt),
         λ x4. (
-          (λ e. starting_runs m.state e),
+          (λ e. ap is_running (starting_is m.state e)),
           λ x5. (
-            (λ e. hailing_runs m.state e),
+            (λ e. ap is_running (hailing_is m.state e)),
             λ x6. (
-              (λ e. let a = and_both (is_idle m.state && st.enabled) st.expired e in (idle_runs m.state (and_both (is_idle m.state) st.enabled a.0).0, a.1)),
+              (λ e. let a = and_both (is_idle m.state && st.enabled) st.expired e in (ap is_running (idle_is m.state (and_both (is_idle m.state) st.enabled a.0).0), a.1)),
               λ x7. (
-                (λ e. let a = and_both (is_idle m.state && st.enabled) (nat_lt 0 st.free) e in (idle_runs m.state (and_both (is_idle m.state) st.enabled a.0).0, refl, a.1)),
+                (λ e. let a = and_both (is_idle m.state && st.enabled) (nat_lt 0 st.free) e in (ap is_running (idle_is m.state (and_both (is_idle m.state) st.enabled a.0).0), refl, a.1)),
                 λ x8. (
                   (λ e. let a = and_both (is_sending m.state) (nat_lt (messages_sent m.state) m.count) e in (a.0, refl, a.1)),
-                  λ x9. ((λ e. sending_runs m.state e), λ x10. ((λ e. ready_runs m.state e), λ x11. tt)),
+                  λ x9. ((λ e. sending_runs m.state e), λ x10. ((λ e. ap is_running (ready_is m.state e)), λ x11. tt)),
                 ),
               ),
             ),

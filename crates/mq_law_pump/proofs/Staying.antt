@@ -1,5 +1,5 @@
 -- No turn brings a sender to run that didn't, and none stops a receiver.
-use Rattle.std.proofs.Common.{ℕ, ◌≡◌, true, false, refl}
+use Rattle.std.proofs.Common.{ℕ, ◌≡◌, true, false, refl, ap}
 use Rattle.mq_frame.specs.declared.frame.FrameKind.{FrameKind}
 use Rattle.mq_frame.specs.declared.frame.FrameKind.TheVariants as kinds
 use Rattle.mq_frame.specs.declared.frame.Seen.{Seen}
@@ -14,46 +14,17 @@ use Rattle.mq_receiver.specs.declared.turns.ReceiverOut.{ReceiverOut}
 use Rattle.mq_receiver.specs.declared.turns.ReceiverOut.TheVariants as ends
 use Rattle.mq_sender.specs.After.{sender_after}
 use Rattle.mq_sender.specs.States.{is_running}
-use Rattle.mq_sender.specs.Table.{is_ack, is_binding, is_err, is_hailing, is_idle, is_ready, is_sending, is_starting, is_status, is_waiting, sender_lines, sender_next}
+use Rattle.mq_sender.specs.Table.{is_ack, is_binding, is_err, is_status, is_waiting, sender_lines, sender_next}
 use Rattle.mq_sender.specs.declared.state.Sender.{Sender}
-use Rattle.mq_sender.specs.declared.state.SenderState.{SenderState}
-use Rattle.mq_sender.specs.declared.state.SenderState.TheVariants as states
 use Rattle.mq_sender.specs.declared.turns.SenderDoes.{SenderDoes}
 use Rattle.mq_sender.specs.declared.turns.SenderDoes.TheVariants as sends
 use Rattle.mq_sender.specs.declared.turns.SenderOut.{SenderOut}
 use Rattle.mq_sender.specs.declared.turns.SenderOut.TheVariants as outs
+use Rattle.mq_law_channel.proofs.Sending.{binding_is, hailing_is, idle_is, ready_is, sending_runs, starting_is, waiting_is}
 use Rattle.mq_law_channel.proofs.Told.{and_both, by_lines}
 use Rattle.mq_law_idle.specs.Roads.{ReceiverTurn, Road, SenderTurn, receiver_does, receiver_turn, receiver_turned, sender_does, sender_turn, sender_turned, waiting}
 
 -- A SENDER THAT TAKES A TURN BUT TO LOOK AWAY RUNS
-starting_runs : (st : SenderState) → is_starting st ≡ true → is_running st ≡ true
-starting_runs states.Starting e = refl
-starting_runs st e = absurd cc
-
-hailing_runs : (st : SenderState) → is_hailing st ≡ true → is_running st ≡ true
-hailing_runs states.Hailing e = refl
-hailing_runs st e = absurd cc
-
-binding_runs : (st : SenderState) → is_binding st ≡ true → is_running st ≡ true
-binding_runs states.Binding e = refl
-binding_runs st e = absurd cc
-
-idle_runs : (st : SenderState) → is_idle st ≡ true → is_running st ≡ true
-idle_runs states.Running e = refl
-idle_runs st e = absurd cc
-
-sending_runs : (st : SenderState) → is_sending st ≡ true → is_running st ≡ true
-sending_runs (states.Sending sent number) e = refl
-sending_runs st e = absurd cc
-
-ready_runs : (st : SenderState) → is_ready st ≡ true → is_running st ≡ true
-ready_runs states.Ready e = refl
-ready_runs st e = absurd cc
-
-waiting_runs : (st : SenderState) → is_waiting st ≡ true → is_running st ≡ true
-waiting_runs states.Waiting e = refl
-waiting_runs st e = absurd cc
-
 abbrev pub Runs : Sender → SenderDoes → Type 0
 Runs s sends.Still = Unit {0}
 Runs s sends.Ignore = Unit {0}
@@ -61,22 +32,22 @@ Runs s _ = is_running s.state ≡ true
 
 pub runs_by : (m : Sender) (seen : Seen) (st : Stock) → Runs m (sender_next m seen st)
 runs_by m seen st = by_lines (Runs m) sends.Still (sender_lines m seen st) (
-  (λ e. binding_runs m.state (and_both (is_binding m.state) (is_status m.kept.session seen) e).0),
+  (λ e. ap is_running (binding_is m.state (and_both (is_binding m.state) (is_status m.kept.session seen) e).0)),
   λ x1. (
-    (λ e. waiting_runs m.state (and_both (is_waiting m.state) (is_ack m.kept.doubt seen) e).0),
+    (λ e. ap is_running (waiting_is m.state (and_both (is_waiting m.state) (is_ack m.kept.doubt seen) e).0)),
     λ x2. (
-      (λ e. waiting_runs m.state (and_both (is_waiting m.state) (is_err m.kept.doubt seen) e).0),
+      (λ e. ap is_running (waiting_is m.state (and_both (is_waiting m.state) (is_err m.kept.doubt seen) e).0)),
       λ x3. (
         (λ e. tt),
         λ x4. (
-          (λ e. starting_runs m.state e),
+          (λ e. ap is_running (starting_is m.state e)),
           λ x5. (
-            (λ e. hailing_runs m.state e),
+            (λ e. ap is_running (hailing_is m.state e)),
             λ x6. (
-              (λ e. idle_runs m.state (and_both _ _ (and_both _ _ e).0).0),
+              (λ e. ap is_running (idle_is m.state (and_both _ _ (and_both _ _ e).0).0)),
               λ x7. (
-                (λ e. idle_runs m.state (and_both _ _ (and_both _ _ e).0).0),
-                λ x8. ((λ e. sending_runs m.state (and_both _ _ e).0), λ x9. ((λ e. sending_runs m.state e), λ x10. ((λ e. ready_runs m.state e), λ x11. tt))),
+                (λ e. ap is_running (idle_is m.state (and_both _ _ (and_both _ _ e).0).0)),
+                λ x8. ((λ e. sending_runs m.state (and_both _ _ e).0), λ x9. ((λ e. sending_runs m.state e), λ x10. ((λ e. ap is_running (ready_is m.state e)), λ x11. tt))),
               ),
             ),
           ),

@@ -1,5 +1,5 @@
 -- What a PUMP leaves at a manager: its definitions; and of a channel's sender that runs on, its queue, to whose rows none comes.
-use Rattle.std.specs.Prelude.{◌≡◌, ℕ, Bool, true, false, not, ◌&&◌, List, [], ◌∷◌, Option, Some, None}
+use Rattle.std.specs.Prelude.{◌≡◌, ℕ, Bool, true, false, not, List, Option, Some, None}
 use Rattle.std.specs.Str.{bytes_eq}
 use Rattle.mq_sender.specs.States.{is_running}
 use Rattle.mq_sender.specs.declared.state.Sender.{Sender}
@@ -9,18 +9,17 @@ use Rattle.mq_calls.specs.Steps.{Part}
 use Rattle.mq_spec_node.specs.Deeds.{Deed}
 use Rattle.mq_spec_node.specs.Node.{SenderEnd, end_in}
 use Rattle.mq_spec_node.specs.Node.ChannelEnd.{Sends}
+use Rattle.mq_law_seized.specs.Each.{all_of, parts_of_all}
 
 abbrev pub defines_none : Change → Bool
 defines_none (ChangeObjects change) = false
 defines_none _ = true
 
 abbrev pub all_define_none : List Change → Bool
-all_define_none [] = true
-all_define_none (c ∷ cs) = defines_none c && all_define_none cs
+all_define_none cs = all_of defines_none cs
 
 abbrev pub parts_define_none : List Part → Bool
-parts_define_none [] = true
-parts_define_none (part ∷ parts) = all_define_none part.changes && parts_define_none parts
+parts_define_none parts = parts_of_all defines_none parts
 
 abbrev pub EachDefinesNone : Option Deed → Type 0
 EachDefinesNone None = Unit {0}
@@ -35,12 +34,10 @@ leaves channel queue ForgetAll = false
 leaves channel queue _ = true
 
 abbrev pub all_leave : (channel queue : List ℕ) → List Change → Bool
-all_leave channel queue [] = true
-all_leave channel queue (c ∷ cs) = leaves channel queue c && all_leave channel queue cs
+all_leave channel queue cs = all_of (leaves channel queue) cs
 
 abbrev pub parts_leave : (channel queue : List ℕ) → List Part → Bool
-parts_leave channel queue [] = true
-parts_leave channel queue (part ∷ parts) = all_leave channel queue part.changes && parts_leave channel queue parts
+parts_leave channel queue parts = parts_of_all (leaves channel queue) parts
 
 -- a deed of a sender's own end leaves its queue so, where the sender runs behind it
 abbrev pub EachLeavesOwn : (queue : List ℕ) → SenderEnd → Option Deed → Type 0

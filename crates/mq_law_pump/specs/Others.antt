@@ -1,5 +1,5 @@
 -- What others do to a queue that one channel's sender has open: they add no row to it, and free none.
-use Rattle.std.specs.Prelude.{◌≡◌, ◌≤◌, ℕ, Bool, true, false, not, ◌&&◌, List, [], ◌∷◌, Option, Some, None, Ok}
+use Rattle.std.specs.Prelude.{◌≡◌, ◌≤◌, ℕ, Bool, true, false, not, List, [], ◌∷◌, Option, Some, None, Ok}
 use Rattle.std.specs.Str.{bytes_eq}
 use Rattle.mq_message.specs.declared.message.Message.{Message}
 use Rattle.mq_message.specs.declared.place.Holder.TheVariants as holders
@@ -15,6 +15,7 @@ use Rattle.mq_spec_manager.specs.Put.{queue_at}
 use Rattle.mq_spec_manager.specs.Agents.{names_of}
 use Rattle.mq_spec_node.specs.Deeds.{Deed}
 use Rattle.mq_law_idle.specs.Counts.{free_in, held_in}
+use Rattle.mq_law_seized.specs.Each.{all_of, parts_of_all}
 
 -- a change that adds no row to the queue, and holds and frees none of it, where only this channel's batch has rows there; and leaves it open
 abbrev pub adds_none : (channel queue : List ℕ) → Change → Bool
@@ -29,12 +30,10 @@ adds_none channel queue ForgetAll = false
 adds_none channel queue _ = true
 
 abbrev pub all_add_none : (channel queue : List ℕ) → List Change → Bool
-all_add_none channel queue [] = true
-all_add_none channel queue (c ∷ cs) = adds_none channel queue c && all_add_none channel queue cs
+all_add_none channel queue cs = all_of (adds_none channel queue) cs
 
 abbrev pub parts_add_none : (channel queue : List ℕ) → List Part → Bool
-parts_add_none channel queue [] = true
-parts_add_none channel queue (part ∷ parts) = all_add_none channel queue part.changes && parts_add_none channel queue parts
+parts_add_none channel queue parts = parts_of_all (adds_none channel queue) parts
 
 -- no more rows are free, and held, than were
 pub record NoMore (rows before : List Row) : Type 0 where

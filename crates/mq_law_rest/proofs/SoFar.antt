@@ -26,12 +26,9 @@ use Rattle.mq_law_ran.proofs.Lawfuls.{lawful}
 use Rattle.mq_nodes.specs.Carried.{AreCarriedSoFar, entries_until, history_until, until}
 use Rattle.mq_law_rest.specs.Until.{IsPlace}
 use Rattle.mq_law_rest.proofs.Steps.{begun_until, entries_place, marks_many, until_at}
+use Rattle.mq_law_pump.proofs.Histories.{follows_front}
 
 -- ONE HISTORY
-follows_front : (n : Node) (last : ℕ) (xs ys : List Entry) → Follows n last (xs ++ ys) → Follows n last xs
-follows_front n last [] ys f = tt
-follows_front n last (x ∷ xs) ys f = (f.0, follows_front (done_by x n).next x.stamp xs ys f.1)
-
 triggers_front : (last : Option Actor) (n : Node) (xs ys : List Entry) → TriggersStand last n (xs ++ ys) → TriggersStand last n xs
 triggers_front last n [] ys f = tt
 triggers_front last n (x ∷ xs) ys f = (f.0, triggers_front (Some x.actor) (done_by x n).next xs ys f.1)

@@ -1,12 +1,6 @@
 -- At each front of a manager's history the network's facts hold, where the story of the run has no conflict.
 use Rattle.std.proofs.Common.{ℕ, ◌≡◌, Bool, List, [], ◌∷◌, ◌++◌, refl, ap, sym, subst, ◌∙◌, append_assoc}
-use Rattle.std.specs.Prelude.{◌==◌, if◌then◌else◌, ◌<◌, Some, slice_get}
-use Rattle.mq_sc_parse.specs.declared.command.Command.TheVariants as lines
-use Rattle.mq_history.specs.declared.acts.Act.TheVariants as acts
-use Rattle.mq_history.specs.declared.calls.Actor.{Actor}
-use Rattle.mq_history.specs.declared.calls.Actor.TheVariants as actors
-use Rattle.mq_history.specs.declared.calls.Call.{Call}
-use Rattle.mq_history.specs.declared.calls.Call.TheVariants as calls
+use Rattle.std.specs.Prelude.{◌==◌, if◌then◌else◌, Some, slice_get}
 use Rattle.mq_history.specs.declared.calls.Entry.{Entry}
 use Rattle.mq_history.specs.declared.history.History.{History}
 use Rattle.mq_history.specs.declared.scenario.Scenario.{Scenario}
@@ -14,55 +8,13 @@ use Rattle.mq_spec_network.specs.Conflict.{Deed as ToldDeed, NoConflict, deeds}
 use Rattle.mq_spec_network.specs.Promised.{Premises}
 use Rattle.mq_spec_network.specs.Story.{IsStory, Line, Mem, entries_at, entries_or, part}
 use Rattle.mq_law_node.proofs.Named.{bool_case}
-use Rattle.mq_law_one.specs.Alone.{IsOwnCall}
-use Rattle.mq_law_one.proofs.Running.{Told_, none_more, one_more, told_of}
-use Rattle.mq_law_run.specs.Run.{HaveSenders, Moves, Stand}
-use Rattle.mq_law_run.proofs.Acting.{cable_is, receiver_acts, sender_acts, some_at, timeout_acts}
+use Rattle.mq_law_one.proofs.Running.{none_more, one_more, told_of}
+use Rattle.mq_law_run.specs.Run.{Stand}
 use Rattle.mq_law_run.proofs.Beginning.{begins}
-use Rattle.mq_law_run.proofs.Breaking.{obeys_all}
-use Rattle.mq_law_run.proofs.Owning.{own_moves}
-use Rattle.mq_law_run.proofs.Rising.{crash_moves, restart_moves}
 use Rattle.mq_law_run.proofs.Standing.{keeps_on}
+use Rattle.mq_law_run.proofs.Whole.{entry_moves}
 use Rattle.mq_law_rest.specs.Rests.{IsPeaceful}
 use Rattle.mq_law_rest.proofs.Calm.{IsCalm, calm_of, deeds_both, mem_first, mem_of_part}
-
-pub have_senders : (s : Scenario) (hs : List History) → Premises s hs → HaveSenders s hs
-have_senders s hs premises k there = some_at hs k.sender (subst (λ (l : ℕ). k.sender < l) (sym premises.joined.all) (cable_is s s.cables k premises.scenario.cables there).sender)
-
--- EACH ENTRY (as in mq_law_run's Whole, which keeps this to itself)
-entry_moves : (s : Scenario) (hs : List History) (wide p rest : List Line) (es : List ToldDeed) (x : Line) (z : Stand s hs p) (t : Told_ s hs p x) → Premises s hs → IsStory hs (p ++ x ∷ rest) → NoConflict s hs wide → deeds wide ≡ deeds (p ++ x ∷ []) ++ es
-    → Moves s hs p x t.h z
-entry_moves s hs wide p rest es x z t premises story peace split = go x.entry.actor x.entry.call refl refl
-  where
-    own : (a : Actor) (c : Call) → x.entry.actor ≡ a → x.entry.call ≡ c → IsOwnCall a c → Moves s hs p x t.h z
-    own a c f g is = own_moves s hs p x z t (subst (λ (b : Actor). IsOwnCall b x.entry.call) (sym f) (subst (λ (d : Call). IsOwnCall a d) (sym g) is))
-
-    go : (a : Actor) (c : Call) → x.entry.actor ≡ a → x.entry.call ≡ c → Moves s hs p x t.h z
-    go a (calls.Act (acts.Obey (lines.Operate op))) f g = obeys_all s hs wide p es x z t op premises peace split g
-    go a (calls.Act acts.Crash) f g = crash_moves s hs p x z t premises.scenario g
-    go a (calls.Act acts.Restart) f g = restart_moves s hs wide p es x z t premises.scenario peace split (have_senders s hs premises) g
-    go (actors.Sender k) calls.Turn f g = sender_acts s hs p rest x z t k premises story f g
-    go (actors.Receiver k) calls.Turn f g = receiver_acts s hs wide p rest es x z t k premises story peace split f g
-    go a calls.Timeout f g = timeout_acts s hs p x z t premises g
-    go a (calls.Mqconn qmgr appl) f g = own a (calls.Mqconn qmgr appl) f g tt
-    go a (calls.Mqdisc hc) f g = own a (calls.Mqdisc hc) f g tt
-    go a (calls.Mqopen hc name qmgr how) f g = own a (calls.Mqopen hc name qmgr how) f g tt
-    go a (calls.Mqclose hc ho) f g = own a (calls.Mqclose hc ho) f g tt
-    go a (calls.Mqput hc ho md body sync) f g = own a (calls.Mqput hc ho md body sync) f g tt
-    go a (calls.Mqput1 hc name qmgr md body sync) f g = own a (calls.Mqput1 hc name qmgr md body sync) f g tt
-    go a (calls.Mqget hc ho get until) f g = own a (calls.Mqget hc ho get until) f g tt
-    go a (calls.Mqcmit hc) f g = own a (calls.Mqcmit hc) f g tt
-    go a (calls.Mqback hc) f g = own a (calls.Mqback hc) f g tt
-    go a (calls.Act (acts.Obey (lines.Objects c))) f g = own a (calls.Act (acts.Obey (lines.Objects c))) f g tt
-    go a (calls.Act (acts.Obey (lines.ShowStatus name any_end))) f g = own a (calls.Act (acts.Obey (lines.ShowStatus name any_end))) f g tt
-    go a (calls.Act (acts.Cut k)) f g = own a (calls.Act (acts.Cut k)) f g tt
-    go a (calls.Act (acts.Clock by_)) f g = own a (calls.Act (acts.Clock by_)) f g tt
-    go a calls.Trigger f g = own a calls.Trigger f g tt
-    go (actors.Handler k) calls.Turn f g = own (actors.Handler k) calls.Turn f g tt
-    go (actors.Script k) calls.Turn f g = own (actors.Script k) calls.Turn f g tt
-    go (actors.Monitor k) calls.Turn f g = own (actors.Monitor k) calls.Turn f g tt
-    go actors.Operator calls.Turn f g = own actors.Operator calls.Turn f g tt
-    go actors.Clock calls.Turn f g = own actors.Clock calls.Turn f g tt
 
 -- ALL PREFIXES
 stands : (s : Scenario) (hs : List History) (story wide : List Line) (later : List ToldDeed) (before p rest : List Line) → Premises s hs → IsStory hs story → NoConflict s hs wide → deeds wide ≡ deeds story ++ later → story ≡ before ++ (p ++ rest)

@@ -18,7 +18,7 @@ use Rattle.mq_spec_node.specs.Calls.{trigger_deed}
 use Rattle.mq_spec_node.specs.Deeds.{Deed}
 use Rattle.mq_spec_node.specs.Happens.{IsDeed, IsEvent}
 use Rattle.mq_spec_node.specs.Node.{Node}
-use Rattle.mq_spec_node.specs.Replays.{Follows, Tells, after, done_by, opening_node}
+use Rattle.mq_spec_node.specs.Replays.{Follows, after, opening_node}
 use Rattle.mq_spec_network.specs.Turns.{Network, does, is_idle, node_at, node_of}
 use Rattle.mq_spec_network.specs.Tasks.{Slot, Task}
 use Rattle.mq_spec_network.specs.Tasks.Slot.{Receives, Sends, TimesOut}
@@ -29,6 +29,7 @@ use Rattle.mq_spec_network.specs.Story.{entries_or}
 use Rattle.mq_spec_network.specs.Given.{surroundings}
 use Rattle.mq_spec_network.specs.Lawful.{IsLawful, network_begun, node_begun}
 use Rattle.mq_net_report.specs.Steps.{begin_of, end_of, in_step, is_turn, turns_in}
+use Rattle.mq_law_pump.proofs.Histories.{follows_front, tells_last}
 use Rattle.mq_law_node.proofs.Named.{bool_case, nat_self, nat_yes}
 use Rattle.mq_law_ran.specs.Runs.{Left}
 use Rattle.mq_law_rest.specs.Rests.{PumpsTell}
@@ -110,14 +111,6 @@ here_more w m e = ap (λ (b : Bool). if b then w.done m ++ e ∷ [] else w.done 
 never_empty : (xs : List Entry) (e : Entry) → xs ++ e ∷ [] ≡ [] → ⊥
 never_empty [] e h = absurd cc
 never_empty (x ∷ xs) e h = absurd cc
-
-follows_front : (n : Node) (last : ℕ) (xs ys : List Entry) → Follows n last (xs ++ ys) → Follows n last xs
-follows_front n last [] ys h = tt
-follows_front n last (x ∷ xs) ys h = (h.0, follows_front (done_by x n).next x.stamp xs ys h.1)
-
-tells_last : (n : Node) (last : ℕ) (xs : List Entry) (e : Entry) → Follows n last (xs ++ e ∷ []) → (stamp : ℕ) × Tells (after n xs) stamp e
-tells_last n last [] e h = (last, h.0)
-tells_last n last (x ∷ xs) e h = tells_last (done_by x n).next x.stamp xs e h.1
 
 nothing : (xs : List Entry) (e : Entry) (b : Bool) → (if b then xs ++ e ∷ [] else xs) ≡ [] → xs ≡ []
 nothing [] e b h = refl

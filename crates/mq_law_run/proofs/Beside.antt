@@ -24,7 +24,7 @@ use Rattle.mq_calls.specs.Sizes.{need}
 use Rattle.mq_objects.specs.Names.{local_of}
 use Rattle.mq_calls.specs.Condition.{condition}
 use Rattle.mq_calls.specs.Changes.{apply, apply_all, try_if}
-use Rattle.mq_calls.specs.Steps.{Part, do_all, do_part, logged}
+use Rattle.mq_calls.specs.Steps.{Part, do_all, logged}
 use Rattle.mq_spec_manager.specs.Get.{expired_parts}
 use Rattle.mq_spec_manager.specs.Agents.{expired_rows, leave, prepare_of, prepared_record, queue_of_sender, release_of}
 use Rattle.mq_spec_node.specs.Node.{Node, ReceiverEnd, SenderEnd}
@@ -33,7 +33,8 @@ use Rattle.mq_spec_node.specs.Receivers.{receiver_deed_by}
 use Rattle.mq_spec_node.specs.Senders.{after_timeout, leave_if_stopped, prepare_deed, sender_deed_by, settle_parts_if, timeout_deed}
 use Rattle.mq_spec_network.specs.Ledger.{Ledger}
 use Rattle.mq_spec_network.specs.Story.{Mem}
-use Rattle.mq_law_channel.proofs.Told.{and_both}
+use Rattle.mq_law_seized.specs.Each.{all_of, parts_of_all}
+use Rattle.mq_law_seized.proofs.Each.{all_keep, kept_behind, parts_behind, parts_keep}
 use Rattle.mq_law_manager.specs.Facts.{Differ, ident_of}
 use Rattle.mq_law_manager.proofs.Lists.{ident_yes}
 use Rattle.mq_law_node.proofs.Named.{bool_case}
@@ -92,12 +93,10 @@ is_of_end (SetBound channel is) = true
 is_of_end _ = false
 
 abbrev pub all_of_end : List Change → Bool
-all_of_end [] = true
-all_of_end (c ∷ cs) = is_of_end c && all_of_end cs
+all_of_end cs = all_of is_of_end cs
 
 abbrev pub parts_of_end : List Part → Bool
-parts_of_end [] = true
-parts_of_end (part ∷ parts) = all_of_end part.changes && parts_of_end parts
+parts_of_end parts = parts_of_all is_of_end parts
 
 change_beside : (c : Change) (p : Plain) → is_of_end c ≡ true → IsBeside p (apply c p)
 change_beside (Place queue message) p e = record { given = refl; running = refl; definitions = refl; connections = refl; moment = refl; numbers = refl }
@@ -117,18 +116,15 @@ change_beside (SetBound channel false) p e = record { given = refl; running = re
 change_beside c p e = absurd cc
 
 pub all_beside : (cs : List Change) (p : Plain) → all_of_end cs ≡ true → IsBeside p (apply_all cs p)
-all_beside [] p e = none_beside p
-all_beside (c ∷ cs) p e = let b = and_both (is_of_end c) (all_of_end cs) e in then_beside p (apply c p) (apply_all cs (apply c p)) (change_beside c p b.0) (all_beside cs (apply c p) b.1)
+all_beside cs p e = all_keep is_of_end (IsBeside p) (λ c v z b. then_beside p v (apply c v) b (change_beside c v z)) cs p e (none_beside p)
 
 logged_beside : (o : Option LogRecord) (p : Plain) → IsBeside p (logged o p)
 logged_beside None p = none_beside p
 logged_beside (Some r) p = record { given = refl; running = refl; definitions = refl; connections = refl; moment = refl; numbers = refl }
 
 pub parts_beside : (parts : List Part) (p : Plain) → parts_of_end parts ≡ true → IsBeside p (do_all parts p)
-parts_beside [] p e = none_beside p
-parts_beside (part ∷ parts) p e =
-    let b = and_both (all_of_end part.changes) (parts_of_end parts) e in
-    then_beside p (do_part part p) (do_all parts (do_part part p)) (then_beside p (logged part.forced p) (do_part part p) (logged_beside part.forced p) (all_beside part.changes (logged part.forced p) b.0)) (parts_beside parts (do_part part p) b.1)
+parts_beside parts p e = kept_behind (IsBeside p) parts p (none_beside p) (parts_keep is_of_end (IsBeside p) (λ c v z b. then_beside p v (apply c v) b (change_beside c v z))
+    (λ o v b. then_beside p v (logged o v) b (logged_beside o v)) parts p e (none_beside p))
 
 -- so the ledger tells the manager again
 pub beside_told : (m : ℕ) (p q : Plain) (l : Ledger) → IsBeside p q → IsTold m p l → IsTold m q l
@@ -160,10 +156,6 @@ abbrev pub EachOfEnd : Option Deed → Type 0
 EachOfEnd None = Unit {0}
 EachOfEnd (Some d) = IsOfEnd d × (d.reply ≡ replies.Changed) × (d.wanting ≡ None)
 
-end_behind : (xs ys : List Part) → parts_of_end xs ≡ true → parts_of_end ys ≡ true → parts_of_end (xs ++ ys) ≡ true
-end_behind [] ys a b = b
-end_behind (x ∷ xs) ys a b = let z = and_both (all_of_end x.changes) (parts_of_end xs) a in ap (λ (t : Bool). t && parts_of_end (xs ++ ys)) z.0 ∙ end_behind xs ys z.1 b
-
 leave_of_end : (c : List ℕ) (st : SenderState) (p : Plain) → parts_of_end (leave_if_stopped c st p) ≡ true
 leave_of_end c st p = bool_case (is_running st) (λ b. parts_of_end (if b then [] else parts_of (leave c p)) ≡ true) (λ e. refl) (λ e. refl)
 
@@ -193,9 +185,9 @@ senders_of_end stamp e (does.Begin k count) n z = ((refl, refl), refl, refl)
 senders_of_end stamp e (does.PushMsg index) n z = ((refl, refl), refl, refl)
 senders_of_end stamp e does.Prepare n z = prepare_of_end e (number_sent e.machine.state e.machine.kept.last) (batch_of e.channel n.manager.channels.batches) n
 senders_of_end stamp e does.PushEnd n z = ((refl, refl), refl, refl)
-senders_of_end stamp e (does.Bound settle partner) n z = ((end_behind (settle_parts_if e settle n.manager) _ (settle_of_end e settle n.manager) (leave_of_end e.channel _ n.manager), refl), refl, refl)
+senders_of_end stamp e (does.Bound settle partner) n z = ((parts_behind is_of_end (settle_parts_if e settle n.manager) _ (settle_of_end e settle n.manager) (leave_of_end e.channel _ n.manager), refl), refl, refl)
 senders_of_end stamp e does.Commit n z = ((settle_of_end e (Some settles.Commit) n.manager, refl), refl, refl)
-senders_of_end stamp e (does.Backout reason) n z = ((end_behind (settle_parts_if e (Some settles.Backout) n.manager) (parts_of (leave e.channel n.manager)) (settle_of_end e (Some settles.Backout) n.manager) refl, refl), refl, refl)
+senders_of_end stamp e (does.Backout reason) n z = ((parts_behind is_of_end (settle_parts_if e (Some settles.Backout) n.manager) (parts_of (leave e.channel n.manager)) (settle_of_end e (Some settles.Backout) n.manager) refl, refl), refl, refl)
 
 pub timeouts_of_end : (e : SenderEnd) (n : Node) → EachOfEnd (timeout_deed e n)
 timeouts_of_end e n = bool_case (awaits e.machine.state) (λ b. EachOfEnd (if b then Some (after_timeout e (timed_out e.machine) n) else None)) (λ z. ((leave_of_end e.channel (timed_out e.machine).state n.manager, refl), refl, refl)) (λ z. tt)
@@ -225,20 +217,14 @@ adds_none (AddBatch b) = false
 adds_none _ = true
 
 abbrev pub all_add_none : List Change → Bool
-all_add_none [] = true
-all_add_none (c ∷ cs) = adds_none c && all_add_none cs
+all_add_none cs = all_of adds_none cs
 
 abbrev pub parts_add_none : List Part → Bool
-parts_add_none [] = true
-parts_add_none (part ∷ parts) = all_add_none part.changes && parts_add_none parts
+parts_add_none parts = parts_of_all adds_none parts
 
 abbrev pub EachAddsNone : Option Deed → Type 0
 EachAddsNone None = Unit {0}
 EachAddsNone (Some d) = parts_add_none d.parts ≡ true
-
-none_behind : (xs ys : List Part) → parts_add_none xs ≡ true → parts_add_none ys ≡ true → parts_add_none (xs ++ ys) ≡ true
-none_behind [] ys a b = b
-none_behind (x ∷ xs) ys a b = let z = and_both (all_add_none x.changes) (parts_add_none xs) a in ap (λ (t : Bool). t && parts_add_none (xs ++ ys)) z.0 ∙ none_behind xs ys z.1 b
 
 pub leave_adds : (c : List ℕ) (st : SenderState) (p : Plain) → parts_add_none (leave_if_stopped c st p) ≡ true
 leave_adds c st p = bool_case (is_running st) (λ b. parts_add_none (if b then [] else parts_of (leave c p)) ≡ true) (λ e. refl) (λ e. refl)
@@ -268,15 +254,15 @@ senders_add stamp e does.Still n z = tt
 senders_add stamp e does.Ignore n z = refl
 senders_add stamp e (does.HardenSession session) n z = refl
 senders_add stamp e does.PushBind n z = refl
-senders_add stamp e does.Expire n z = none_behind (expired_parts (queue_of_sender e.channel n.manager) (expired_rows (queue_of_sender e.channel n.manager) n.manager)) (leave_if_stopped e.channel e.machine.state n.manager)
+senders_add stamp e does.Expire n z = parts_behind adds_none (expired_parts (queue_of_sender e.channel n.manager) (expired_rows (queue_of_sender e.channel n.manager) n.manager)) (leave_if_stopped e.channel e.machine.state n.manager)
     (expire_adds (queue_of_sender e.channel n.manager) (expired_rows (queue_of_sender e.channel n.manager) n.manager)) (leave_adds e.channel e.machine.state n.manager)
 senders_add stamp e (does.Begin k count) n z = absurd cc
 senders_add stamp e (does.PushMsg index) n z = refl
 senders_add stamp e does.Prepare n z = prepare_adds e (number_sent e.machine.state e.machine.kept.last) (batch_of e.channel n.manager.channels.batches) n
 senders_add stamp e does.PushEnd n z = refl
-senders_add stamp e (does.Bound settle partner) n z = none_behind (settle_parts_if e settle n.manager) _ (settle_adds e settle n.manager) (leave_adds e.channel _ n.manager)
+senders_add stamp e (does.Bound settle partner) n z = parts_behind adds_none (settle_parts_if e settle n.manager) _ (settle_adds e settle n.manager) (leave_adds e.channel _ n.manager)
 senders_add stamp e does.Commit n z = settle_adds e (Some settles.Commit) n.manager
-senders_add stamp e (does.Backout reason) n z = none_behind (settle_parts_if e (Some settles.Backout) n.manager) (parts_of (leave e.channel n.manager)) (settle_adds e (Some settles.Backout) n.manager) refl
+senders_add stamp e (does.Backout reason) n z = parts_behind adds_none (settle_parts_if e (Some settles.Backout) n.manager) (parts_of (leave e.channel n.manager)) (settle_adds e (Some settles.Backout) n.manager) refl
 
 pub timeouts_add : (e : SenderEnd) (n : Node) → EachAddsNone (timeout_deed e n)
 timeouts_add e n = bool_case (awaits e.machine.state) (λ b. EachAddsNone (if b then Some (after_timeout e (timed_out e.machine) n) else None)) (λ z. leave_adds e.channel (timed_out e.machine).state n.manager) (λ z. tt)

@@ -43,7 +43,6 @@ use Rattle.mq_law_node.proofs.Moving.{near_keeps}
 use Rattle.mq_law_node.proofs.Pairs.{offering_among}
 use Rattle.mq_law_node.proofs.SenderTable.{may_turn, turns_as}
 use Rattle.mq_law_node.proofs.SenderTurns.{guarded}
-use Rattle.mq_law_node.proofs.Standing.{running_done_all}
 use Rattle.mq_law_rows.specs.Families.{put_at}
 use Rattle.mq_law_rows.proofs.Lists.{bool_case, eqb_self, here_self, true_false, here_yes}
 use Rattle.mq_law_seen.specs.Seen.{book_of, world_of}
@@ -65,6 +64,7 @@ use Rattle.mq_law_run.proofs.Telling.{deeds_more, none_committed, risen_still, s
 use Rattle.mq_calls.specs.declared.deltas.Why.TheVariants as whys
 use Rattle.mq_queue.specs.declared.row.Row.{Row}
 use Rattle.mq_spec_manager.specs.Get.{expired_parts}
+use Rattle.mq_law_manager.proofs.Untouched.{parts_running}
 use Rattle.mq_sender.specs.States.{is_running}
 use Rattle.mq_sync.specs.declared.data.ReceiverData.{ReceiverData}
 use Rattle.mq_law_rows.specs.World.{Book, Ghost, World}
@@ -175,7 +175,7 @@ expiry_moves s hs p x z t i k d scenario e q actor call r is offered gone =
     let quiet : unit_received x.entry.effect.delta ≡ None = ap unit_received delta ∙ told.0 in
     let sent : Sent w n d c.out c1 = subst (λ (o : Option Deed). EachSent w n o c.out c1) is
     (turns_as w stamp seen n c sends (ap is_up r.up) (distinct_of (stored (queue_of_sender w.channel b) b).rows (r.before.facts.apart.once (queue_of_sender w.channel b)))) in
-    let up : q1.running ≡ Up = running_done_all d.parts b ∙ r.up in
+    let up : q1.running ≡ Up = parts_running d.parts b ∙ r.up in
     let mine : IsMoved s m (done d Runs n).next i k c c1 y1 = record {
       facts = near_keeps (NearStep.Turn turn) c y (z.lines i k e).facts (may_turn w stamp seen b c offered);
       near = λ o. (

@@ -29,6 +29,7 @@ use Rattle.mq_spec_node.specs.Happens.{IsDeed, IsEvent, RunsAlone, choice_event,
 use Rattle.mq_spec_node.specs.Replays.{IsOwn}
 use Rattle.mq_law_channel.specs.Channel.{Channel, Facts, Past}
 use Rattle.mq_law_manager.specs.Facts.{IsSound}
+use Rattle.mq_law_manager.proofs.Untouched.{parts_running}
 use Rattle.mq_law_node.specs.Beside.{AsideFar, AsideNear}
 use Rattle.mq_law_node.specs.Data.{receives_at}
 use Rattle.mq_law_node.specs.Ends.{SendsAs, TakesAs, Where, told_receives, told_sends}
@@ -37,7 +38,6 @@ use Rattle.mq_law_node.specs.Quiet.{EachQuiet, IsOrdinary, IsQuietDeed}
 use Rattle.mq_law_node.proofs.Aside.{quiet_asides}
 use Rattle.mq_law_node.proofs.DataLaws.{receiver_done_all, sender_done_all}
 use Rattle.mq_law_node.proofs.Quiet.{receiver_parts_quiet, sender_parts_quiet}
-use Rattle.mq_law_node.proofs.Standing.{running_done_all}
 use Rattle.mq_law_node.proofs.FarAside.{quiet_far_asides}
 use Rattle.mq_law_node.proofs.FarEvents.{far_noted_moved}
 use Rattle.mq_law_node.proofs.FarFreezing.{far_freezes_quiet, far_goes_down, far_quiet_noted}
@@ -80,23 +80,6 @@ pub own_elim : (P : Done → Type 0) (stamp : ℕ) (actor : Actor) (call : Call)
     → ((k : ℕ) → call ≡ calls.Act (acts.Cut k) → chance ≡ chances.Call Runs → P (quiet (replies.Acted acted.Done) [] (record n { manager = cut k n.manager })))
     → ((by : ℕ) → call ≡ calls.Act (acts.Clock by) → chance ≡ chances.Call Runs → P (quiet (replies.Acted acted.Done) [] (record n { manager = advance_clock by n.manager })))
     → P (event stamp actor call chance seen n)
-own_elim P stamp actor (calls.Mqconn qmgr appl) chance seen n is e own f armed clock = chosen P stamp actor (calls.Mqconn qmgr appl) chance seen n e own (f tt)
-own_elim P stamp actor (calls.Mqdisc hc) chance seen n is e own f armed clock = chosen P stamp actor (calls.Mqdisc hc) chance seen n e own (f tt)
-own_elim P stamp actor (calls.Mqopen hc name qmgr how) chance seen n is e own f armed clock = chosen P stamp actor (calls.Mqopen hc name qmgr how) chance seen n e own (f tt)
-own_elim P stamp actor (calls.Mqclose hc ho) chance seen n is e own f armed clock = chosen P stamp actor (calls.Mqclose hc ho) chance seen n e own (f tt)
-own_elim P stamp actor (calls.Mqput hc ho md body sync) chance seen n is e own f armed clock = chosen P stamp actor (calls.Mqput hc ho md body sync) chance seen n e own (f tt)
-own_elim P stamp actor (calls.Mqput1 hc name qmgr md body sync) chance seen n is e own f armed clock = chosen P stamp actor (calls.Mqput1 hc name qmgr md body sync) chance seen n e own (f tt)
-own_elim P stamp actor (calls.Mqget hc ho get until) chance seen n is e own f armed clock = chosen P stamp actor (calls.Mqget hc ho get until) chance seen n e own (f tt)
-own_elim P stamp actor (calls.Mqcmit hc) chance seen n is e own f armed clock = chosen P stamp actor (calls.Mqcmit hc) chance seen n e own (f tt)
-own_elim P stamp actor (calls.Mqback hc) chance seen n is e own f armed clock = chosen P stamp actor (calls.Mqback hc) chance seen n e own (f tt)
-own_elim P stamp actor (calls.Act (acts.Obey (commands.Objects c))) chance seen n is e own f armed clock = chosen P stamp actor (calls.Act (acts.Obey (commands.Objects c))) chance seen n e own (f tt)
-own_elim P stamp actor (calls.Act (acts.Obey (commands.ShowStatus name any_end))) chance seen n is e own f armed clock = chosen P stamp actor (calls.Act (acts.Obey (commands.ShowStatus name any_end))) chance seen n e own (f tt)
-own_elim P stamp actor calls.Trigger chance seen n is e own f armed clock = chosen P stamp actor calls.Trigger chance seen n e own (f tt)
-own_elim P stamp (actors.Handler k) calls.Turn chance seen n is e own f armed clock = chosen P stamp (actors.Handler k) calls.Turn chance seen n e own (f tt)
-own_elim P stamp (actors.Script k) calls.Turn chance seen n is e own f armed clock = chosen P stamp (actors.Script k) calls.Turn chance seen n e own (f tt)
-own_elim P stamp (actors.Monitor k) calls.Turn chance seen n is e own f armed clock = chosen P stamp (actors.Monitor k) calls.Turn chance seen n e own (f tt)
-own_elim P stamp actors.Operator calls.Turn chance seen n is e own f armed clock = chosen P stamp actors.Operator calls.Turn chance seen n e own (f tt)
-own_elim P stamp actors.Clock calls.Turn chance seen n is e own f armed clock = chosen P stamp actors.Clock calls.Turn chance seen n e own (f tt)
 own_elim P stamp (actors.Sender k) calls.Turn chance seen n is e own f armed clock = absurd is
 own_elim P stamp (actors.Receiver k) calls.Turn chance seen n is e own f armed clock = absurd is
 own_elim P stamp actor calls.Timeout chance seen n is e own f armed clock = absurd is
@@ -105,10 +88,11 @@ own_elim P stamp actor (calls.Act acts.Crash) chance seen n is e own f armed clo
 own_elim P stamp actor (calls.Act acts.Restart) chance seen n is e own f armed clock = absurd is
 own_elim P stamp actor (calls.Act (acts.Cut k)) chance seen n is e own f armed clock = armed k refl (runs_alone chance e)
 own_elim P stamp actor (calls.Act (acts.Clock by)) chance seen n is e own f armed clock = clock by refl (runs_alone chance e)
+own_elim P stamp actor call chance seen n is e own f armed clock = chosen P stamp actor call chance seen n e own (f tt)
 
 -- HALVES. A deed that leaves them aside, at a manager that is up; a quiet one, at a manager that is down.
 pub near_aside : (w : Where) (n : Node) (c : Channel) (p : Past) (d : Deed) (choice : Choice) → n.manager.running ≡ Up → SendsAs w n c → Facts c p → AsideNear w n d → CanCome d choice n → NearNode w (done d choice n).next c
-near_aside w n c p d Runs up h facts a can = subst (λ (r : Running). NearAt w (done d Runs n).next c r) (sym (running_done_all d.parts n.manager ∙ up)) (record {
+near_aside w n c p d Runs up h facts a can = subst (λ (r : Running). NearAt w (done d Runs n).next c r) (sym (parts_running d.parts n.manager ∙ up)) (record {
   here = a.ends ∙ h.here;
   data_ = h.data_ ∙ sym a.data_;
   batched = λ e. let b = h.batched e in record { batch = b.batch; is = a.batch ∙ b.is; unit = b.unit; reads = a.reads c.batch b.reads };
@@ -123,7 +107,7 @@ pub near_down : (w : Where) (n : Node) (c : Channel) (p : Past) (d : Deed) (choi
     → NearNode w (done d choice n).next c
 near_down w n c p d Runs written starts down h facts q can =
     let same : sender_data w.channel (do_all d.parts n.manager) ≡ sender_data w.channel n.manager = sender_done_all w.channel d.parts n.manager ∙ sender_parts_quiet w.channel d.parts _ q.parts in
-    goes_down w (forgotten_rows (delta_of d.parts) d.own) (do_all d.parts n.manager) written starts c (running_done_all d.parts n.manager ∙ down)
+    goes_down w (forgotten_rows (delta_of d.parts) d.own) (do_all d.parts n.manager) written starts c (parts_running d.parts n.manager ∙ down)
     (ap (end_in w.cable) q.ends ∙ h.here)
     (h.data_ ∙ ap (λ (o : Option SenderData). told_sends (sender_or o)) (sym same))
     (noted_moved w n.manager (do_all d.parts n.manager) written c same h.noted)
@@ -131,7 +115,7 @@ near_down w n c p d NoMemory written starts down h facts q can = subst (NearAt w
 near_down w n c p d (Stopped by_ k left) written starts down h facts q can = quiet_stops w n c d k left h.here h.data_ q can.0
 
 pub far_aside : (w : Where) (n : Node) (c : Channel) (p : Past) (d : Deed) (choice : Choice) → n.manager.running ≡ Up → TakesAs w n c → Facts c p → AsideFar w n d → CanCome d choice n → FarNode w (done d choice n).next c
-far_aside w n c p d Runs up h facts a can = subst (λ (r : Running). FarAt w (done d Runs n).next c r) (sym (running_done_all d.parts n.manager ∙ up)) (record { here = a.ends ∙ h.here; data_ = h.data_ ∙ sym a.data_ })
+far_aside w n c p d Runs up h facts a can = subst (λ (r : Running). FarAt w (done d Runs n).next c r) (sym (parts_running d.parts n.manager ∙ up)) (record { here = a.ends ∙ h.here; data_ = h.data_ ∙ sym a.data_ })
 far_aside w n c p d NoMemory up h facts a can = subst (FarAt w n c) (sym up) h
 far_aside w n c p d (Stopped by_ k left) up h facts a can =
     let s = a.stops k left can.0 in
@@ -141,7 +125,7 @@ pub far_down : (w : Where) (n : Node) (c : Channel) (p : Past) (d : Deed) (choic
     → FarNode w (done d choice n).next c
 far_down w n c p d Runs written starts down h facts q can =
     let same : receiver_data w.channel (do_all d.parts n.manager) ≡ receiver_data w.channel n.manager = receiver_done_all w.channel d.parts n.manager ∙ receiver_parts_quiet w.channel d.parts _ q.parts in
-    far_goes_down w (forgotten_rows (delta_of d.parts) d.own) (do_all d.parts n.manager) written starts c (running_done_all d.parts n.manager ∙ down)
+    far_goes_down w (forgotten_rows (delta_of d.parts) d.own) (do_all d.parts n.manager) written starts c (parts_running d.parts n.manager ∙ down)
     (ap (end_in w.cable) q.ends ∙ h.here)
     (h.data_ ∙ ap (λ (o : Option ReceiverData). told_receives (receiver_or o)) (sym same))
     (far_noted_moved w n.manager (do_all d.parts n.manager) written c same h.noted)

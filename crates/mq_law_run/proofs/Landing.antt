@@ -1,6 +1,6 @@
 -- What a receiver's commit changes is beside all but rows and channels, and adds no batch.
 use Rattle.std.proofs.Common.{ℕ, ◌≡◌, Bool, true, false, List, [], ◌∷◌, ◌++◌, refl, ap, subst, ◌∙◌}
-use Rattle.std.specs.Prelude.{◌&&◌, None, Result, Ok, Err}
+use Rattle.std.specs.Prelude.{◌&&◌, None, Result, Ok}
 use Rattle.mq_message.specs.declared.message.Ident.{Ident}
 use Rattle.mq_message.specs.declared.message.Message.{Message}
 use Rattle.mq_codes.specs.declared.reason.Reason.{Reason}
@@ -12,13 +12,13 @@ use Rattle.mq_spec_network.specs.Order.{unit_received}
 use Rattle.mq_calls.specs.State.{Change, Plain}
 use Rattle.mq_calls.specs.State.Change.{SetReceiver}
 use Rattle.mq_calls.specs.Reads.{is_persistent, receiver_data}
-use Rattle.mq_calls.specs.Changes.{apply_all}
 use Rattle.mq_spec_manager.specs.Put.{placed}
-use Rattle.mq_spec_manager.specs.Landing.{Landing, land}
-use Rattle.mq_spec_manager.specs.Receiving.{Landed, before, land_changes, landed, landed_by, landed_unless, received_part}
-use Rattle.mq_spec_manager.specs.Standing.{Absent, InDoubtAt, Present, Standing, drop_changes, drop_did, drop_row, is_present, standing_at, undoubted}
+use Rattle.mq_spec_manager.specs.Landing.{Landing}
+use Rattle.mq_spec_manager.specs.Receiving.{Landed, land_changes, landed, received_part}
+use Rattle.mq_spec_manager.specs.Standing.{Absent, InDoubtAt, Present, Standing, drop_changes, drop_did, drop_row, undoubted}
 use Rattle.mq_law_channel.proofs.Told.{and_both}
 use Rattle.mq_law_run.proofs.Beside.{adds_none, all_add_none, all_of_end, is_of_end, parts_add_none, parts_of_end}
+use Rattle.mq_law_seized.proofs.Landing.{LandedHas, landed_has}
 
 -- of ends, and adding none
 abbrev pub Both : List Change → Type 0
@@ -61,25 +61,15 @@ dropped_quiet m Absent = refl
 dropped_quiet m (InDoubtAt queue) = refl
 dropped_quiet m Present = refl
 
+abbrev IsBoth : Landed → Type 0
+IsBoth l = Both l.changes × (unit_received l.delta ≡ None)
+
 abbrev pub EachBoth : Result Landed Reason → Type 0
-EachBoth (Err reason) = Unit {0}
-EachBoth (Ok l) = Both l.changes × (unit_received l.delta ≡ None)
-
-before_both : (m : Message) (l : Landing) (s : Standing) (r : Result Landed Reason) → EachBoth r → EachBoth (before m l s r)
-before_both m l s (Err reason) h = tt
-before_both m l s (Ok rest) h = (both_behind (land_changes l s) rest.changes (lands l s) h.0, quiet_behind (drop_did l.message s) (did.Placed l.queue l.message.ident l.dead ∷ rest.delta) (dropped_quiet l.message s) h.1)
-
-by_both : (r : Result Landing Reason) (m : Message) (s : Standing) (p : Plain) (rest : Plain → Result Landed Reason) → ((q : Plain) → EachBoth (rest q)) → EachBoth (landed_by r m s p rest)
-by_both (Err reason) m s p rest h = tt
-by_both (Ok l) m s p rest h = before_both m l s (rest (apply_all (land_changes l s) p)) (h (apply_all (land_changes l s) p))
-
-unless_both : (c : List ℕ) (present : Bool) (m : Message) (s : Standing) (p : Plain) (rest : Plain → Result Landed Reason) → ((q : Plain) → EachBoth (rest q)) → EachBoth (landed_unless present c m s p rest)
-unless_both c true m s p rest h = h p
-unless_both c false m s p rest h = by_both (land c m p) m s p rest h
+EachBoth r = LandedHas IsBoth r
 
 pub landed_both : (c : List ℕ) (ms : List Message) (p : Plain) → EachBoth (landed c ms p)
-landed_both c [] p = ((refl, refl), refl)
-landed_both c (m ∷ ms) p = unless_both c (is_present (standing_at m p)) m (standing_at m p) p (λ q. landed c ms q) (λ q. landed_both c ms q)
+landed_both c ms p = landed_has IsBoth ((refl, refl), refl)
+    (λ m l s rest h. (both_behind (land_changes l s) rest.changes (lands l s) h.0, quiet_behind (drop_did l.message s) (did.Placed l.queue l.message.ident l.dead ∷ rest.delta) (dropped_quiet l.message s) h.1)) c ms p
 
 -- so is its part
 pub commit_both : (c : List ℕ) (ms : List Message) (u : Luw) (last : ℕ) (x : Landed) (p : Plain) → landed c ms p ≡ Ok x → (parts_of_end (received_part c u last x p ∷ []) ≡ true) × (parts_add_none (received_part c u last x p ∷ []) ≡ true)

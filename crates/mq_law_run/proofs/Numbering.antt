@@ -62,18 +62,7 @@ other call f p (Some d) = λ z. f (wanted d.wanting d.reply) p.numbers.connectio
 
 wanted_all : (stamp : ℕ) (actor : Actor) (call : Call) (seen : Seen) (n : Node) → EachWanted call n.manager (deed_of stamp actor call seen n)
 wanted_all stamp actor (calls.Mqconn qmgr appl) seen n = wants qmgr appl n.own n.manager (refusal (conn_tests qmgr n.manager)) (silent (Connect (new_connection appl n.manager) ∷ []) ∷ [])
-wanted_all stamp actor (calls.Mqdisc hc) seen n = other (calls.Mqdisc hc) (λ r a le. le) n.manager (deed_of stamp actor (calls.Mqdisc hc) seen n)
-wanted_all stamp actor (calls.Mqopen hc name qmgr how) seen n = other (calls.Mqopen hc name qmgr how) (λ r a le. le) n.manager (deed_of stamp actor (calls.Mqopen hc name qmgr how) seen n)
-wanted_all stamp actor (calls.Mqclose hc ho) seen n = other (calls.Mqclose hc ho) (λ r a le. le) n.manager (deed_of stamp actor (calls.Mqclose hc ho) seen n)
-wanted_all stamp actor (calls.Mqput hc ho md body sync) seen n = other (calls.Mqput hc ho md body sync) (λ r a le. le) n.manager (deed_of stamp actor (calls.Mqput hc ho md body sync) seen n)
-wanted_all stamp actor (calls.Mqput1 hc name qmgr md body sync) seen n = other (calls.Mqput1 hc name qmgr md body sync) (λ r a le. le) n.manager (deed_of stamp actor (calls.Mqput1 hc name qmgr md body sync) seen n)
-wanted_all stamp actor (calls.Mqget hc ho get until) seen n = other (calls.Mqget hc ho get until) (λ r a le. le) n.manager (deed_of stamp actor (calls.Mqget hc ho get until) seen n)
-wanted_all stamp actor (calls.Mqcmit hc) seen n = other (calls.Mqcmit hc) (λ r a le. le) n.manager (deed_of stamp actor (calls.Mqcmit hc) seen n)
-wanted_all stamp actor (calls.Mqback hc) seen n = other (calls.Mqback hc) (λ r a le. le) n.manager (deed_of stamp actor (calls.Mqback hc) seen n)
-wanted_all stamp actor (calls.Act act) seen n = other (calls.Act act) (λ r a le. le) n.manager (deed_of stamp actor (calls.Act act) seen n)
-wanted_all stamp actor calls.Turn seen n = other calls.Turn (λ r a le. le) n.manager (deed_of stamp actor calls.Turn seen n)
-wanted_all stamp actor calls.Timeout seen n = other calls.Timeout (λ r a le. le) n.manager (deed_of stamp actor calls.Timeout seen n)
-wanted_all stamp actor calls.Trigger seen n = other calls.Trigger (λ r a le. le) n.manager (deed_of stamp actor calls.Trigger seen n)
+wanted_all stamp actor call seen n = other call (λ r a le. le) n.manager (deed_of stamp actor call seen n)
 
 -- so it is with each choice of a deed
 pub record IsRaised (call : Call) (chance : Chance) (d : Done) (n : ℕ) : Type 0 where

@@ -44,6 +44,7 @@ use Rattle.mq_law_channel.proofs.Told.{unit_yes}
 use Rattle.mq_law_channel.proofs.Following as following
 use Rattle.mq_law_manager.specs.Facts.{IsSound}
 use Rattle.mq_law_manager.proofs.Named.{name_is}
+use Rattle.mq_law_manager.proofs.Untouched.{parts_running}
 use Rattle.mq_law_node.specs.Beside.{AsideFar, AsideNear}
 use Rattle.mq_law_node.specs.Ends.{TakesAs, Taken as Took, Where, offering, receiver_of, receiver_out, taking_turn}
 use Rattle.mq_law_node.specs.Ends.{EachTaken as EachTook}
@@ -55,7 +56,6 @@ use Rattle.mq_law_node.proofs.FarFreezing.{far_near}
 use Rattle.mq_law_node.proofs.Moving.{far_keeps}
 use Rattle.mq_law_node.proofs.Pairs.{offering_among}
 use Rattle.mq_law_node.proofs.ReceiverTurns.{refused_places, takes_as}
-use Rattle.mq_law_node.proofs.Standing.{running_done_all}
 use Rattle.mq_law_rows.specs.Families.{is_here, put_at}
 use Rattle.mq_law_rows.specs.World.{Book, World}
 use Rattle.mq_law_rows.proofs.Lists.{bool_case, eqb_self, here_self, here_yes, keep_all, true_false}
@@ -319,7 +319,7 @@ receiver_moves s hs whole p es x z t i k d g scenario none split e q from actor 
       facts = far_keeps (FarStep.Turn turn) c y facts may;
       near = λ a. absurd ((z.joint.tied k there).apart (q ∙ sym a));
       far = λ a. (
-        subst (λ (o : Running). FarAt w (done d Runs n).next c1 o) (sym (running_done_all d.parts n.manager ∙ r.up)) took_.takes,
+        subst (λ (o : Running). FarAt w (done d Runs n).next c1 o) (sym (parts_running d.parts n.manager ∙ r.up)) took_.takes,
         far_near (FarStep.Turn turn) c,
         λ f j. subst (λ (fs : List Frame). Mem f fs) took_.offers (offering_among d.pushed c.back f j),
       );

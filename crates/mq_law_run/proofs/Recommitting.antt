@@ -1,7 +1,7 @@
 -- A restart that finds the stopped write of a receiver's commit, as a move of the network: the unit is committed there by now, with what the
 -- network has become since; and then the manager comes up.
 use Rattle.std.proofs.Common.{ℕ, ◌≡◌, Bool, true, false, List, [], ◌∷◌, ◌++◌, refl, ap, sym, subst, ◌∙◌, inl, inr, map}
-use Rattle.std.specs.Prelude.{Option, Some, None, Result, Ok, Err, ◌==◌, ◌&&◌, ◌||◌, filter, if◌then◌else◌, not, slice_get}
+use Rattle.std.specs.Prelude.{Option, Some, None, Result, Ok, ◌==◌, ◌&&◌, ◌||◌, filter, if◌then◌else◌, not, slice_get}
 use Rattle.std.specs.Option.{option_map}
 use Rattle.std.specs.Str.{bytes_eq}
 use Rattle.mq_codes.specs.declared.reason.Reason.{Reason}
@@ -39,15 +39,13 @@ use Rattle.mq_calls.specs.State.Running.{Down}
 use Rattle.mq_calls.specs.Reads.{receiver_data, receiver_in, sender_data, sender_in}
 use Rattle.mq_calls.specs.Steps.{stands_in}
 use Rattle.mq_spec_manager.specs.Stops.{lasts, redone, redone_delta}
-use Rattle.mq_calls.specs.Changes.{apply_all}
-use Rattle.mq_spec_manager.specs.Landing.{Landing, land}
-use Rattle.mq_spec_manager.specs.Agents.{Landed, Standing, before, is_present, land_changes, landed, landed_by, landed_unless, received_part, received_record, standing_at}
+use Rattle.mq_spec_manager.specs.Agents.{Landed, landed, received_part, received_record}
 use Rattle.mq_spec_node.specs.Node.{Node}
 use Rattle.mq_spec_node.specs.Deeds.{Done}
 use Rattle.mq_spec_node.specs.Replays.{done_by}
 use Rattle.mq_spec_network.specs.Conflict.{Deed as ToldDeed, NoConflict, committed_in, deeds, deeds_in, is_committed}
 use Rattle.mq_spec_network.specs.Ledger as ledgers
-use Rattle.mq_spec_network.specs.Ledger.{Ledger, Users, change_at, ledger, users_or}
+use Rattle.mq_spec_network.specs.Ledger.{Ledger, Users, ledger, users_or}
 use Rattle.mq_spec_network.specs.Order.{KeepsOrder, OrderAt, committed_messages, messages_found, others as others_of, unit_received}
 use Rattle.mq_spec_network.specs.Standing.{managers_at, node_after, opening_ledger, opening_managers}
 use Rattle.mq_spec_network.specs.Story.{Line, Mem}
@@ -67,6 +65,7 @@ use Rattle.mq_law_node.proofs.Landings.{QuietReceiver, landed_receiver, receiver
 use Rattle.mq_law_node.proofs.Moving.{far_keeps}
 use Rattle.mq_law_node.proofs.NearEvents.{redone_data}
 use Rattle.mq_law_manager.proofs.Named.{name_is}
+use Rattle.mq_law_seized.proofs.Landing.{LandedHas, landed_has}
 use Rattle.mq_law_rows.specs.Families.{put_at}
 use Rattle.mq_law_rows.specs.Kinds.{among, is_lost, place_all}
 use Rattle.mq_law_rows.specs.World.{Book, tag_idents}
@@ -155,25 +154,14 @@ only_commit m b v r q c u (d ∷ ds) e =
     bool_case (lasts r q d) (λ t. committed_in b v (deeds_in m (if t then d ∷ rest else rest)) ≡ ((bytes_eq b c && same_unit v u) || false)) (λ y. none_in_landed m b v d (deeds_in m rest) z.0 ∙ on) (λ y. on)
 
 -- a landing tells what came back and what was placed
+abbrev TellsLanded : Landed → Type 0
+TellsLanded l = all_landed l.delta ≡ true
+
 abbrev AreLanded : Result Landed Reason → Type 0
-AreLanded (Err reason) = Unit {0}
-AreLanded (Ok l) = all_landed l.delta ≡ true
-
-before_landed : (m : Message) (l : Landing) (st : Standing) (r : Result Landed Reason) → AreLanded r → AreLanded (before m l st r)
-before_landed m l st (Err reason) h = tt
-before_landed m l st (Ok rest) h = plain_one l.message st l.queue l.message.ident l.dead rest.delta h
-
-by_landed : (r : Result Landing Reason) (m : Message) (st : Standing) (p : Plain) (rest : Plain → Result Landed Reason) → ((q : Plain) → AreLanded (rest q)) → AreLanded (landed_by r m st p rest)
-by_landed (Err reason) m st p rest h = tt
-by_landed (Ok l) m st p rest h = before_landed m l st (rest (apply_all (land_changes l st) p)) (h _)
-
-unless_landed : (c : List ℕ) (present : Bool) (m : Message) (st : Standing) (p : Plain) (rest : Plain → Result Landed Reason) → ((q : Plain) → AreLanded (rest q)) → AreLanded (landed_unless present c m st p rest)
-unless_landed c true m st p rest h = h p
-unless_landed c false m st p rest h = by_landed (land c m p) m st p rest h
+AreLanded r = LandedHas TellsLanded r
 
 all_are_landed : (c : List ℕ) (ms : List Message) (p : Plain) → AreLanded (landed c ms p)
-all_are_landed c [] p = refl
-all_are_landed c (m ∷ ms) p = unless_landed c (is_present (standing_at m p)) m (standing_at m p) p (λ q. landed c ms q) (λ q. all_are_landed c ms q)
+all_are_landed c ms p = landed_has TellsLanded refl (λ m l st rest h. plain_one l.message st l.queue l.message.ident l.dead rest.delta h) c ms p
 
 or_true : (a : Bool) → (a || false) ≡ true → a ≡ true
 or_true true e = refl

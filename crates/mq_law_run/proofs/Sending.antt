@@ -53,6 +53,7 @@ use Rattle.mq_spec_network.specs.Story.{Line, Mem}
 use Rattle.mq_law_channel.specs.Channel.{Channel, Facts, Past}
 use Rattle.mq_law_channel.specs.Turns.{SeenIn, SenderTurn, sender_past, sender_turn}
 use Rattle.mq_law_manager.specs.Facts.{IsSound}
+use Rattle.mq_law_manager.proofs.Untouched.{parts_running}
 use Rattle.mq_law_node.specs.Beside.{AsideFar, AsideNear}
 use Rattle.mq_law_node.specs.Ends.{EachSent, Guard, SendsAs, Sent, Where, offering, sender_of, turn_of}
 use Rattle.mq_law_node.specs.Moves.{NearMay, NearStep, near_does, near_past}
@@ -64,7 +65,6 @@ use Rattle.mq_law_node.proofs.Moving.{near_keeps}
 use Rattle.mq_law_node.proofs.Pairs.{offering_among}
 use Rattle.mq_law_node.proofs.SenderTable.{may_turn, turns_as}
 use Rattle.mq_law_node.proofs.SenderTurns.{guarded}
-use Rattle.mq_law_node.proofs.Standing.{running_done_all}
 use Rattle.mq_law_rows.specs.Families.{put_at}
 use Rattle.mq_law_rows.proofs.Lists.{eqb_self, here_self, true_false}
 use Rattle.mq_law_seen.specs.Seen.{book_of, world_of}
@@ -219,7 +219,7 @@ step_moves s hs p x z t i k d o step scenario e q v =
     let mine : IsMoved s m (done d Runs n).next i k c c1 y1 = record {
       facts = near_keeps step c y (z.lines i k e).facts v.may;
       near = λ a. (
-        subst (λ (b : Running). NearAt w (done d Runs n).next c1 b) (sym (running_done_all d.parts n.manager ∙ r.up)) v.sent.sends,
+        subst (λ (b : Running). NearAt w (done d Runs n).next c1 b) (sym (parts_running d.parts n.manager ∙ r.up)) v.sent.sends,
         near_far step c,
         λ f j. subst (λ (fs : List Frame). Mem f fs) v.sent.offers (offering_among d.pushed c.out f j),
       );

@@ -42,6 +42,7 @@ use Rattle.mq_spec_network.specs.Story.{Line, Mem}
 use Rattle.mq_law_channel.specs.Channel.{Channel, Facts, Past}
 use Rattle.mq_law_channel.specs.Turns as channels
 use Rattle.mq_law_manager.specs.Facts.{IsSound}
+use Rattle.mq_law_manager.proofs.Untouched.{parts_running}
 use Rattle.mq_law_node.specs.Data.{receives_at}
 use Rattle.mq_law_node.specs.Ends.{TakesAs, Taken as Took, Where, receiver_of, told_receives}
 use Rattle.mq_law_node.specs.Moves.{FarMay, FarStep, far_does}
@@ -57,7 +58,6 @@ use Rattle.mq_law_node.proofs.NearDoes.{close_apart}
 use Rattle.mq_law_node.proofs.Operators.{closed_at, closed_is_told, open_there}
 use Rattle.mq_law_node.proofs.Pairs.{offering_among}
 use Rattle.mq_law_node.proofs.ReceiverTurns.{arrives, end_taken, found_receiver}
-use Rattle.mq_law_node.proofs.Standing.{running_done_all}
 use Rattle.mq_law_rows.specs.Families.{put_at}
 use Rattle.mq_law_rows.proofs.Lists.{eqb_self, true_false}
 use Rattle.mq_law_seen.specs.Seen.{book_of, world_of}
@@ -274,7 +274,7 @@ served_moves s hs p x z t i k d op step scenario e q call chance r v =
       facts = far_keeps step c y facts v.may;
       near = λ a. absurd ((z.joint.tied k there).apart (q ∙ sym a));
       far = λ a. (
-        subst (λ (o : Running). FarAt w (done d Runs n).next c1 o) (sym (running_done_all d.parts n.manager ∙ r.up)) v.took.takes,
+        subst (λ (o : Running). FarAt w (done d Runs n).next c1 o) (sym (parts_running d.parts n.manager ∙ r.up)) v.took.takes,
         far_near step c,
         λ f j. subst (λ (fs : List Frame). Mem f fs) v.took.offers (offering_among d.pushed c.back f j),
       );

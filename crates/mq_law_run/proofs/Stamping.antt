@@ -49,8 +49,7 @@ use Rattle.mq_spec_node.specs.Senders.{carried, prepare_deed, sender_deed_by, af
 use Rattle.mq_spec_node.specs.Receivers.{place_deed, receiver_deed_by}
 use Rattle.mq_spec_node.specs.Operators.{end_here, operate, operate_up, refused_or, reset_end, resolve_doubt, resolve_end, start_end, start_seized, stop_end}
 use Rattle.mq_spec_node.specs.Calls.{receiver_turn, sender_turn, timeout_by, timeout_of, turn_up, where_up}
-use Rattle.mq_spec_node.specs.Happens.{IsEvent, choice_event, event}
-use Rattle.mq_spec_node.specs.Happens.{restarted as node_restarted}
+use Rattle.mq_spec_node.specs.Happens.{IsEvent, choice_event, event, restarted as node_restarted}
 use Rattle.mq_spec_node.specs.Replays.{Follows, IsOwn, NoneForeign, done_by, opening_node}
 use Rattle.mq_spec_network.specs.Given.{surroundings}
 use Rattle.mq_spec_network.specs.Promised.{Premises}
@@ -222,25 +221,9 @@ event_stamps stamp actor (calls.Act acts.Restart) (chances.Foreign image length 
 event_stamps stamp (actors.Sender k) calls.Turn chance seen n can own = chosen_stamps stamp chance (where_up n.manager.running (turn_up stamp (actors.Sender k) seen n)) n (up_stamps stamp n.manager.running _ (sending_stamps stamp (sender_end k n.own) seen n))
 event_stamps stamp (actors.Receiver k) calls.Turn chance seen n can own = chosen_stamps stamp chance (where_up n.manager.running (turn_up stamp (actors.Receiver k) seen n)) n (up_stamps stamp n.manager.running _ (receiving_stamps stamp (receiver_end k n.own) seen n))
 event_stamps stamp actor calls.Timeout chance seen n can own = chosen_stamps stamp chance (where_up n.manager.running (timeout_by actor n)) n (up_stamps stamp n.manager.running (timeout_by actor n) (timeout_stamps stamp actor n))
-event_stamps stamp actor (calls.Mqconn qmgr appl) chance seen n can own = own_stamps stamp actor (calls.Mqconn qmgr appl) chance seen n tt can own
-event_stamps stamp actor (calls.Mqdisc hc) chance seen n can own = own_stamps stamp actor (calls.Mqdisc hc) chance seen n tt can own
-event_stamps stamp actor (calls.Mqopen hc name qmgr how) chance seen n can own = own_stamps stamp actor (calls.Mqopen hc name qmgr how) chance seen n tt can own
-event_stamps stamp actor (calls.Mqclose hc ho) chance seen n can own = own_stamps stamp actor (calls.Mqclose hc ho) chance seen n tt can own
-event_stamps stamp actor (calls.Mqput hc ho md body sync) chance seen n can own = own_stamps stamp actor (calls.Mqput hc ho md body sync) chance seen n tt can own
-event_stamps stamp actor (calls.Mqput1 hc name qmgr md body sync) chance seen n can own = own_stamps stamp actor (calls.Mqput1 hc name qmgr md body sync) chance seen n tt can own
-event_stamps stamp actor (calls.Mqget hc ho get until) chance seen n can own = own_stamps stamp actor (calls.Mqget hc ho get until) chance seen n tt can own
-event_stamps stamp actor (calls.Mqcmit hc) chance seen n can own = own_stamps stamp actor (calls.Mqcmit hc) chance seen n tt can own
-event_stamps stamp actor (calls.Mqback hc) chance seen n can own = own_stamps stamp actor (calls.Mqback hc) chance seen n tt can own
-event_stamps stamp actor (calls.Act (acts.Obey (lines.Objects c))) chance seen n can own = own_stamps stamp actor (calls.Act (acts.Obey (lines.Objects c))) chance seen n tt can own
-event_stamps stamp actor (calls.Act (acts.Obey (lines.ShowStatus name any_end))) chance seen n can own = own_stamps stamp actor (calls.Act (acts.Obey (lines.ShowStatus name any_end))) chance seen n tt can own
 event_stamps stamp actor (calls.Act (acts.Cut k)) chance seen n can own = tt
 event_stamps stamp actor (calls.Act (acts.Clock by_)) chance seen n can own = tt
-event_stamps stamp actor calls.Trigger chance seen n can own = own_stamps stamp actor calls.Trigger chance seen n tt can own
-event_stamps stamp (actors.Handler k) calls.Turn chance seen n can own = own_stamps stamp (actors.Handler k) calls.Turn chance seen n tt can own
-event_stamps stamp (actors.Script k) calls.Turn chance seen n can own = own_stamps stamp (actors.Script k) calls.Turn chance seen n tt can own
-event_stamps stamp (actors.Monitor k) calls.Turn chance seen n can own = own_stamps stamp (actors.Monitor k) calls.Turn chance seen n tt can own
-event_stamps stamp actors.Operator calls.Turn chance seen n can own = own_stamps stamp actors.Operator calls.Turn chance seen n tt can own
-event_stamps stamp actors.Clock calls.Turn chance seen n can own = own_stamps stamp actors.Clock calls.Turn chance seen n tt can own
+event_stamps stamp actor call chance seen n can own = own_stamps stamp actor call chance seen n tt can own
 
 -- EACH ENTRY of a history that replays
 entries_stamp : (n : Node) (last : ℕ) (es : List Entry) (o : Entry) → Follows n last es → NoneForeign es → Mem o es → Stamps o.stamp o.effect.pushed

@@ -35,11 +35,11 @@ use Rattle.mq_law_run.proofs.Owning.{own_moves}
 use Rattle.mq_law_run.proofs.Rising.{crash_moves, restart_moves}
 use Rattle.mq_law_run.proofs.Standing.{keeps_on}
 
-have_senders : (s : Scenario) (hs : List History) → Premises s hs → HaveSenders s hs
+pub have_senders : (s : Scenario) (hs : List History) → Premises s hs → HaveSenders s hs
 have_senders s hs premises k there = some_at hs k.sender (subst (λ (l : ℕ). k.sender < l) (sym premises.joined.all) (cable_is s s.cables k premises.scenario.cables there).sender)
 
 -- EACH ENTRY
-entry_moves : (s : Scenario) (hs : List History) (wide p rest : List Line) (es : List ToldDeed) (x : Line) (z : Stand s hs p) (t : Told_ s hs p x) → Premises s hs → IsStory hs (p ++ x ∷ rest) → NoConflict s hs wide → deeds wide ≡ deeds (p ++ x ∷ []) ++ es
+pub entry_moves : (s : Scenario) (hs : List History) (wide p rest : List Line) (es : List ToldDeed) (x : Line) (z : Stand s hs p) (t : Told_ s hs p x) → Premises s hs → IsStory hs (p ++ x ∷ rest) → NoConflict s hs wide → deeds wide ≡ deeds (p ++ x ∷ []) ++ es
     → Moves s hs p x t.h z
 entry_moves s hs wide p rest es x z t premises story peace split = go x.entry.actor x.entry.call refl refl
   where
@@ -53,25 +53,7 @@ entry_moves s hs wide p rest es x z t premises story peace split = go x.entry.ac
     go (actors.Sender k) calls.Turn f g = sender_acts s hs p rest x z t k premises story f g
     go (actors.Receiver k) calls.Turn f g = receiver_acts s hs wide p rest es x z t k premises story peace split f g
     go a calls.Timeout f g = timeout_acts s hs p x z t premises g
-    go a (calls.Mqconn qmgr appl) f g = own a (calls.Mqconn qmgr appl) f g tt
-    go a (calls.Mqdisc hc) f g = own a (calls.Mqdisc hc) f g tt
-    go a (calls.Mqopen hc name qmgr how) f g = own a (calls.Mqopen hc name qmgr how) f g tt
-    go a (calls.Mqclose hc ho) f g = own a (calls.Mqclose hc ho) f g tt
-    go a (calls.Mqput hc ho md body sync) f g = own a (calls.Mqput hc ho md body sync) f g tt
-    go a (calls.Mqput1 hc name qmgr md body sync) f g = own a (calls.Mqput1 hc name qmgr md body sync) f g tt
-    go a (calls.Mqget hc ho get until) f g = own a (calls.Mqget hc ho get until) f g tt
-    go a (calls.Mqcmit hc) f g = own a (calls.Mqcmit hc) f g tt
-    go a (calls.Mqback hc) f g = own a (calls.Mqback hc) f g tt
-    go a (calls.Act (acts.Obey (lines.Objects c))) f g = own a (calls.Act (acts.Obey (lines.Objects c))) f g tt
-    go a (calls.Act (acts.Obey (lines.ShowStatus name any_end))) f g = own a (calls.Act (acts.Obey (lines.ShowStatus name any_end))) f g tt
-    go a (calls.Act (acts.Cut k)) f g = own a (calls.Act (acts.Cut k)) f g tt
-    go a (calls.Act (acts.Clock by_)) f g = own a (calls.Act (acts.Clock by_)) f g tt
-    go a calls.Trigger f g = own a calls.Trigger f g tt
-    go (actors.Handler k) calls.Turn f g = own (actors.Handler k) calls.Turn f g tt
-    go (actors.Script k) calls.Turn f g = own (actors.Script k) calls.Turn f g tt
-    go (actors.Monitor k) calls.Turn f g = own (actors.Monitor k) calls.Turn f g tt
-    go actors.Operator calls.Turn f g = own actors.Operator calls.Turn f g tt
-    go actors.Clock calls.Turn f g = own actors.Clock calls.Turn f g tt
+    go a c f g = own a c f g tt
 
 -- ALL PREFIXES
 behind : {A : Type 0} (xs ys zs : List A) → (xs ++ ys) ++ zs ≡ xs ++ (ys ++ zs)

@@ -1,7 +1,6 @@
 -- A receiver's commit whose write was stopped, where a restart finds it: the manager that the restart makes of it, and what is posted.
-use Rattle.std.proofs.Common.{ℕ, zero, suc, ◌≡◌, ◌≢◌, Bool, true, false, List, [], ◌∷◌, ◌++◌, refl, ap, sym, subst, ◌∙◌, inl, inr, map}
-use Rattle.std.specs.Prelude.{Option, Some, Result, Ok, Err, ◌==◌, filter, not, slice_get}
-use Rattle.mq_message.specs.declared.message.Ident.{Ident}
+use Rattle.std.proofs.Common.{ℕ, zero, suc, ◌≡◌, ◌≢◌, true, false, List, [], ◌∷◌, ◌++◌, refl, ap, sym, subst, ◌∙◌, inl, inr, map}
+use Rattle.std.specs.Prelude.{Option, Some, Result, Ok, ◌==◌, filter, not, slice_get}
 use Rattle.mq_message.specs.declared.message.Message.{Message}
 use Rattle.mq_codes.specs.declared.reason.Reason.{Reason}
 use Rattle.mq_queue.specs.declared.row.Row.{Row}
@@ -14,17 +13,15 @@ use Rattle.mq_calls.specs.declared.deltas.Did.TheVariants as did
 use Rattle.mq_history.specs.declared.calls.Call.TheVariants as calls
 use Rattle.mq_history.specs.declared.scenario.Scenario.{Scenario}
 use Rattle.mq_calls.specs.State.{Change, Given, Noted, Plain}
-use Rattle.mq_calls.specs.State.Change.{Leave, SetReceiver}
-use Rattle.mq_calls.specs.State.Which.{Among}
-use Rattle.mq_calls.specs.Reads.{connection_at, is_persistent, receiver_data, stored}
-use Rattle.mq_calls.specs.Changes.{apply, apply_all}
+use Rattle.mq_calls.specs.State.Change.{SetReceiver}
+use Rattle.mq_calls.specs.Reads.{connection_at, receiver_data, stored}
+use Rattle.mq_calls.specs.Changes.{apply_all}
 use Rattle.mq_calls.specs.Images.{lasting}
 use Rattle.mq_calls.specs.declared.image.Image.{Image}
 use Rattle.mq_calls.specs.Steps.{Part, do_part, logged, stands_in, volatile_gone}
 use Rattle.mq_spec_manager.specs.Stops.{lasts, redone, redone_delta}
 use Rattle.mq_spec_manager.specs.Put.{placed}
-use Rattle.mq_spec_manager.specs.Agents.{Absent, InDoubtAt, Landed, Present, Standing, before, is_present, land, land_changes, landed, landed_by, landed_unless, received_part, received_record, standing_at, undoubted}
-use Rattle.mq_spec_manager.specs.Landing.{Landing as Arrival}
+use Rattle.mq_spec_manager.specs.Agents.{Landed, landed, received_part, received_record}
 use Rattle.mq_spec_network.specs.Conflict.{Deed as ToldDeed}
 use Rattle.mq_spec_network.specs.Ledger as ledgers
 use Rattle.mq_spec_network.specs.Ledger.{Ledger, Users, at_moment, change_at, post_call, take_all_gone, unit_of, up_again, users_at, users_or}
@@ -37,10 +34,9 @@ use Rattle.mq_law_rows.specs.Kinds.{among, place_all}
 use Rattle.mq_law_rows.specs.World.{Book, Inv, World, tag_idents}
 use Rattle.mq_law_rows.proofs.Lists.{bool_case, eqb_yes, is_false}
 use Rattle.mq_law_seen.specs.Seen.{book_of, world_of}
-use Rattle.mq_law_manager.specs.Facts.{IsSound, has_queue}
-use Rattle.mq_law_manager.proofs.Shelves.{has_mapped}
-use Rattle.mq_law_log.proofs.Landings.{is_landing, next_sound, placed_steady}
-use Rattle.mq_law_log.proofs.Steady.{AllSteady, steady_append}
+use Rattle.mq_law_manager.specs.Facts.{IsSound}
+use Rattle.mq_law_log.proofs.Landings.{LandedSteady, landed_steady}
+use Rattle.mq_law_log.proofs.Steady.{steady_append}
 use Rattle.mq_law_found.specs.Finds.{posted_again, since}
 use Rattle.mq_law_found.proofs.Again.{steady_lasts}
 use Rattle.mq_law_found.proofs.Finding.{moments_back, timed_then, told_then}
@@ -60,43 +56,10 @@ use Rattle.mq_law_stopped.specs.Noted.{CommitFound, CommitNote, Stays_, left_as,
 use Rattle.mq_law_stopped.proofs.Channels.{all_after}
 
 -- WHAT LASTS OF IT follows from what lasted: so wherever a restart finds it, it has the image that the turn would have had
-undoubted_steady : (b : Bool) (i : Ident) (queue : List ℕ) (m : Message) (p : Plain) → has_queue queue p.queues ≡ true → AllSteady (undoubted b i ++ placed queue m) p
-undoubted_steady true i queue m p h = (tt, placed_steady queue m p h)
-undoubted_steady false i queue m p h = placed_steady queue m p h
-
-land_steady : (l : Arrival) (st : Standing) (p : Plain) → has_queue l.queue p.queues ≡ true → AllSteady (land_changes l st) p
-land_steady l Absent p h = undoubted_steady (is_persistent l.message) l.message.ident l.queue l.message p h
-land_steady l (InDoubtAt from) p h = (tt, undoubted_steady (is_persistent l.message) l.message.ident l.queue l.message (apply (Leave (Among from (l.message.ident ∷ []))) p) (has_mapped _ (λ x. refl) l.queue p.queues ∙ h))
-land_steady l Present p h = undoubted_steady (is_persistent l.message) l.message.ident l.queue l.message p h
-
-abbrev EachSteady : Result Landed Reason → Plain → Type 0
-EachSteady (Err reason) p = Unit {0}
-EachSteady (Ok r) p = AllSteady r.changes p
-
-before_steady : (m : Message) (l : Arrival) (st : Standing) (p : Plain) (rest : Result Landed Reason) → AllSteady (land_changes l st) p → EachSteady rest (apply_all (land_changes l st) p) → EachSteady (before m l st rest) p
-before_steady m l st p (Err reason) a b = tt
-before_steady m l st p (Ok r) a b = steady_append (land_changes l st) r.changes p a b
-
-by_steady : (channel : List ℕ) (m : Message) (ms : List Message) (p : Plain) (x : Result Arrival Reason) → land channel m p ≡ x → IsSound p → is_present (standing_at m p) ≡ false → ((q : Plain) → IsSound q → EachSteady (landed channel ms q) q)
-    → EachSteady (landed_by x m (standing_at m p) p (λ q. landed channel ms q)) p
-by_steady channel m ms p (Err reason) w h e rest = tt
-by_steady channel m ms p (Ok l) w h e rest =
-    let st : Standing = standing_at m p in
-    let q : Plain = apply_all (land_changes l st) p in
-    before_steady m l st p (landed channel ms q) (land_steady l st p (h.stocked.placed l.queue (is_landing channel m p l w).1.0)) (rest q (next_sound channel m p l h e w))
-
-landed_steady : (channel : List ℕ) (ms : List Message) (p : Plain) → IsSound p → EachSteady (landed channel ms p) p
-landed_steady channel [] p h = tt
-landed_steady channel (m ∷ ms) p h = at (is_present (standing_at m p)) refl (λ q k. landed_steady channel ms q k)
-  where
-    at : (b : Bool) → is_present (standing_at m p) ≡ b → ((q : Plain) → IsSound q → EachSteady (landed channel ms q) q) → EachSteady (landed_unless b channel m (standing_at m p) p (λ q. landed channel ms q)) p
-    at true e rest = rest p h
-    at false e rest = by_steady channel m ms p (land channel m p) refl h e rest
-
 pub commit_lasts : (c : List ℕ) (u : Luw) (last : ℕ) (ms : List Message) (x : Landed) (p : Plain) → landed c ms p ≡ Ok x → IsSound p → Stays_ p (received_part c u last x p)
 commit_lasts c u last ms x p e sound running moment log =
     steady_lasts (received_part c u last x p).changes p (Some (received_record c u last x)) running moment log sound
-    (steady_append x.changes _ p (subst (λ (o : Result Landed Reason). EachSteady o p) e (landed_steady c ms p sound)) (tt, tt))
+    (steady_append x.changes _ p (subst (λ (o : Result Landed Reason). LandedSteady o p) e (landed_steady c ms p sound)) (tt, tt))
 
 -- AT WHAT IS LEFT
 pub shadow_left : (was p : Plain) → left_as p ≡ left_as (volatile_gone was) → IsShadow was (record p { moment = was.moment })

@@ -31,11 +31,12 @@ use Rattle.mq_spec_network.specs.Order.{unit_received}
 use Rattle.mq_law_rows.proofs.Lists.{bool_case}
 use Rattle.mq_law_channel.proofs.Told.{and_both}
 use Rattle.mq_law_manager.specs.Facts.{IsSound}
+use Rattle.mq_law_manager.proofs.Untouched.{part_given}
 use Rattle.mq_law_log.specs.Restarts.{IsHarmless}
 use Rattle.mq_law_log.proofs.Hardenings.{harden_harmless}
 use Rattle.mq_law_log.proofs.Stops.{frozen_lasts}
 use Rattle.mq_law_found.specs.Finds.{posted_again, since}
-use Rattle.mq_law_found.proofs.Again.{part_given, rises}
+use Rattle.mq_law_found.proofs.Again.{rises}
 use Rattle.mq_law_found.proofs.Finding.{moments_back}
 use Rattle.mq_law_batches.specs.Releases.{IsWord}
 use Rattle.mq_law_stopped.proofs.Channels.{all_after}
@@ -143,23 +144,7 @@ call_posts m (calls.Act (acts.Obey (lines.Operate op))) reply ms ds l is e = obe
     obeyed : (t : Bool) → ledgers.when t (ledgers.obey m (lines.Operate op)) l ≡ l
     obeyed true = refl
     obeyed false = refl
-call_posts m (calls.Act (acts.Obey (lines.Objects c))) reply ms ds l is e = absurd is
-call_posts m (calls.Act (acts.Obey (lines.ShowStatus name any_end))) reply ms ds l is e = absurd is
-call_posts m (calls.Act acts.Crash) reply ms ds l is e = absurd is
-call_posts m (calls.Act acts.Restart) reply ms ds l is e = absurd is
-call_posts m (calls.Act (acts.Cut k)) reply ms ds l is e = absurd is
-call_posts m (calls.Act (acts.Clock by_)) reply ms ds l is e = absurd is
-call_posts m (calls.Mqconn qmgr appl) reply ms ds l is e = absurd is
-call_posts m (calls.Mqdisc hc) reply ms ds l is e = absurd is
-call_posts m (calls.Mqopen hc name qmgr how) reply ms ds l is e = absurd is
-call_posts m (calls.Mqclose hc ho) reply ms ds l is e = absurd is
-call_posts m (calls.Mqput hc ho md body sync) reply ms ds l is e = absurd is
-call_posts m (calls.Mqput1 hc name qmgr md body sync) reply ms ds l is e = absurd is
-call_posts m (calls.Mqget hc ho get until) reply ms ds l is e = absurd is
-call_posts m (calls.Mqcmit hc) reply ms ds l is e = absurd is
-call_posts m (calls.Mqback hc) reply ms ds l is e = absurd is
-call_posts m calls.Timeout reply ms ds l is e = absurd is
-call_posts m calls.Trigger reply ms ds l is e = absurd is
+call_posts m call reply ms ds l is e = absurd is
 
 pub nothing_posted : (m : ℕ) (st : ledgers.Stopped) (note : Noted) → IsOfEnd st.entry.call → all_calm note.delta ≡ true → (p : Plain) (l : Ledger) → posted_again m st (redone_delta true (Some note) p) l ≡ l
 nothing_posted m st note is e p l =

@@ -1,7 +1,6 @@
 -- A found write of a sender's end, as what it is of the network: the manager is as its stopped write has left it.
 use Rattle.std.proofs.Common.{ℕ, ◌≡◌, ◌≢◌, Bool, true, false, List, refl, ap, sym, subst, ◌∙◌, inl, inr, arith}
-use Rattle.std.specs.Prelude.{Option, Some, None, ◌+◌, ◌≤◌, ◌≢◌, if◌then◌else◌}
-use Rattle.std.specs.Str.{bytes_eq}
+use Rattle.std.specs.Prelude.{Option, Some, None, ◌+◌, ◌≤◌, ◌≢◌}
 use Rattle.mq_message.specs.declared.place.Holder.TheVariants as holders
 use Rattle.mq_queue.specs.declared.row.Row.{Row}
 use Rattle.mq_sync.specs.declared.unit.Unit.{Unit as Luw}
@@ -12,7 +11,6 @@ use Rattle.mq_sync.specs.declared.data.End.TheVariants as ends
 use Rattle.mq_sync.specs.declared.data.InDoubt.{InDoubt}
 use Rattle.mq_sync.specs.Settlement.{is_commit, sender_or}
 use Rattle.mq_sync.specs.Units.{Upto, same_unit, unit_named}
-use Rattle.mq_sender.specs.declared.state.Kept.{Kept}
 use Rattle.mq_sender.specs.declared.turns.SenderDoes.{SenderDoes}
 use Rattle.mq_sender.specs.declared.turns.SenderDoes.TheVariants as does
 use Rattle.mq_sender.specs.States.{is_running}
@@ -22,7 +20,7 @@ use Rattle.mq_calls.specs.declared.agents.Note.TheVariants as notes
 use Rattle.mq_calls.specs.declared.deltas.Did.TheVariants as did
 use Rattle.mq_calls.specs.declared.state.Batch.{Batch}
 use Rattle.mq_calls.specs.State.{Change, Noted, Plain}
-use Rattle.mq_calls.specs.Reads.{batch_of, in_doubt_of, sender_data, stored}
+use Rattle.mq_calls.specs.Reads.{batch_of, sender_data, stored}
 use Rattle.mq_calls.specs.Changes.{apply_all}
 use Rattle.mq_calls.specs.Steps.{Part, do_part, stands_in}
 use Rattle.mq_spec_manager.specs.Stops.{redone}
@@ -37,27 +35,23 @@ use Rattle.mq_law_channel.specs.Following.{Said, WasCommitted, WasNot}
 use Rattle.mq_law_channel.specs.Turns.{SenderMay, SenderTurn, emptied, past_done, past_turned, sender_done, sender_numbered, sender_turned}
 use Rattle.mq_law_channel.proofs.Following.{said}
 use Rattle.mq_law_channel.proofs.Core.{unit_eq}
-use Rattle.mq_law_channel.proofs.Sending.{binding_is, fits_at, fits_sending, not_forced, waiting_is}
-use Rattle.mq_law_channel.proofs.Told.{ack_told, doubt_is, err_told, unit_no, unit_yes}
-use Rattle.mq_law_rows.specs.Kinds.{after, freed}
-use Rattle.mq_law_rows.proofs.Lists.{bool_case, name_self, true_false}
-use Rattle.mq_law_seen.specs.Seen.{doubt_of, held_unit, holds_of, last_of, rows_of, world_of}
+use Rattle.mq_law_channel.proofs.Sending.{binding_is, waiting_is}
+use Rattle.mq_law_channel.proofs.Told.{ack_told, err_told, unit_no, unit_yes}
+use Rattle.mq_law_rows.proofs.Lists.{bool_case, true_false}
+use Rattle.mq_law_seen.specs.Seen.{rows_of, world_of}
 use Rattle.mq_law_manager.proofs.Receiving.{log_aside}
 use Rattle.mq_law_events.specs.Tied.{IsNext}
 use Rattle.mq_law_batches.specs.Releases.{IsWord, settled_changes}
-use Rattle.mq_law_batches.proofs.Settling as settling
-use Rattle.mq_law_batches.proofs.Settling.{backs_out, drops, prepared_doubts, prepared_holds}
 use Rattle.mq_law_batches.proofs.Wording.{Stays, words}
 use Rattle.mq_law_node.specs.Ends.{Guard}
 use Rattle.mq_law_node.specs.Moves.{NearMay, NearStep, near_past}
 use Rattle.mq_law_node.proofs.Operators.{resting_apart}
 use Rattle.mq_law_node.proofs.SenderTurns.{binding_apart, guarded, waiting_apart}
-use Rattle.mq_law_story.proofs.Tying.{unprepared_tied}
-use Rattle.mq_law_turns.specs.Turns.{IsAt, Scene, Turned, TurnedBy, world_in}
+use Rattle.mq_law_turns.specs.Turns.{IsAt, IsHere, Scene, Turned, TurnedBy, world_in}
 use Rattle.mq_law_turns.proofs.Agreeing.{backout_tells, commit_tells, sender_tells}
 use Rattle.mq_law_turns.proofs.Operating.{resolves_backout, resolves_commit, resolves_committed}
-use Rattle.mq_law_turns.proofs.Parts.{changed, doubt_held, here_holds, next_mid, not_doubted, part_stays, same_turned, turned_on, world_behind}
-use Rattle.mq_law_turns.proofs.Sending.{IsSending, Settling, settled_left, settled_only, settled_some, settles_so}
+use Rattle.mq_law_turns.proofs.Parts.{next_mid, part_stays, same_turned, turned_on, world_behind}
+use Rattle.mq_law_turns.proofs.Sending.{IsDoubted, Settling, backed_turned, committed_turned, is_doubted, is_in_sending, prepared_turned, settled_some, settles_so}
 use Rattle.mq_law_stopped.specs.Noted.{IsDown, IsForcing, IsSettling, IsTurn, Redone, SenderKind, SenderNote, left_as}
 use Rattle.mq_law_stopped.specs.Noted.SenderKind.{Begins, Numbers, Prepares, Resolves, Settles}
 
@@ -73,6 +67,9 @@ is_at z n x y a off free = record {
   facts = a.facts;
   joint = a.joint;
 }
+
+here_in : {z : Scene} {n : Node} {x : Channel} {y : Past} → IsDown z n x y → IsHere z n x y
+here_in a = record { at = a.at; facts = a.facts; joint = a.joint }
 
 -- WORDS
 worded : (z : Scene) (n : Node) (x k : Channel) (y l : Past) (note : Noted) (w : Note) (rs : List Plain) → IsDown z n x y → IsWord w → note.changes ≡ (harden_part z.place.channel w n.manager).changes → k.receives ≡ x.receives
@@ -90,86 +87,9 @@ session_rises : (y : Past) (u : Luw) → Upto u (now y.near) → Upto u (unit_na
 session_rises y u (inl e) = inl (omega arith)
 session_rises y u (inr e) = inl (let s = e.0 in omega arith)
 
--- A BATCH THAT IS PREPARED
-sending_at : (z : Scene) (n : Node) (x : Channel) (y : Past) (b : Batch) → IsDown z n x y → is_sending x.sender.state ≡ true → batch_of z.place.channel n.manager.channels.batches ≡ Some b → IsSending z n x y b
-sending_at z n x y b a e is =
-    let c : List ℕ = z.place.channel in
-    let fits = fits_sending x.sender.state x.sender y.near y.content x.batch e (fits_at x y x.sender.state a.facts.tied refl) in
-    let plain : y.forced ≡ false = not_forced x y a.facts.tied fits.1 in
-    let tied = a.joint.tied.held plain in
-    let certain : in_doubt_of (sender_data c n.manager) ≡ None = not_doubted (in_doubt_of (sender_data c n.manager)) (sym (ap (doubt_of c) a.at) ∙ tied.1 ∙ fits.1) in
-    let holds : (world_in z).holds z.sender c ≡ Some b.unit = ap (holds_of c) a.at ∙ (λ i. held_unit (certain i) (is i)) in
-    record {
-      plain = plain;
-      doubt = fits.1;
-      certain = certain;
-      held = sym tied.0 ∙ holds;
-      apart = λ f. unprepared_tied (world_in z) z.ghost z.sender z.receiver c x y a.joint.tied a.facts plain fits.1 b.unit holds (ap (last_of z.scenario z.managers c) a.at ∙ f);
-    }
-
-prepared : (z : Scene) (n : Node) (x k : Channel) (y : Past) (b : Batch) (last : ℕ) (rs : List Plain) → IsDown z n x y → IsSending z n x y b → batch_of z.place.channel n.manager.channels.batches ≡ Some b → k.receives ≡ x.receives
-    → IsNext z.sender n.manager (apply_all (prepared_changes z.place.channel last b (sender_or (sender_data z.place.channel n.manager))) n.manager) z.managers rs
-    → Turned z (world_of z.scenario z.given rs) k (record y { near = record y.near { doubt = true } })
-prepared z n x k y b last rs a s is far h =
-    let p : Plain = n.manager in
-    let c : List ℕ = z.place.channel in
-    let d = sender_or (sender_data c p) in
-    let q : Plain = apply_all (prepared_changes c last b d) p in
-    let inv = settling.prepares z.scenario z.given z.sender p z.managers rs c last b d z.ghost z.book h is s.certain s.apart a.joint.inv in
-    let hold : (e : List ℕ) → holds_of e (Some q) ≡ holds_of e (Some p) = λ e. prepared_holds c e last b d p is s.certain in
-    let sure : (e : List ℕ) → doubt_of e (Some q) ≡ (if bytes_eq e c then true else doubt_of e (Some p)) = λ e. prepared_doubts c e last b d p in
-    changed z p q rs z.ghost x k y (record y { near = record y.near { doubt = true } }) a.joint h
-    (record { near = record { given = refl; receivers = λ e. refl }; holds = λ e f. hold e; doubts = λ e f. sure e ∙ ap (λ t. if t then true else doubt_of e (Some p)) f }) inv (record {
-      far = far;
-      held = λ f. (hold c ∙ here_holds z p y.near.holds a.at (a.joint.tied.held s.plain).0, sure c ∙ ap (λ t. if t then true else doubt_of c (Some p)) (name_self c));
-      idle = λ f. absurd (true_false (sym f ∙ s.plain));
-      forced = λ v f. absurd (true_false (sym f ∙ s.plain));
-      content = a.joint.tied.content;
-      begun = a.joint.begun;
-      sent = λ o e v f. refl;
-      operated = λ o e v f. refl;
-      own = λ v e. inl e;
-      kept = λ v e. refl;
-      loose = λ o e v f. f;
-    })
-
 -- A UNIT THAT IS SETTLED BY ITS RECEIVER'S WORD
-record IsOpen (z : Scene) (n : Node) (x : Channel) (y : Past) : Type 0 where
-  doubt : InDoubt
-  is : in_doubt_of (sender_data z.place.channel n.manager) ≡ Some doubt
-  held : y.near.holds ≡ Some doubt.unit
-
-is_open : (z : Scene) (n : Node) (x : Channel) (y : Past) (o : Doubt) → IsDown z n x y → is_running x.sender.state ≡ true → x.sender.kept.doubt ≡ Some o → IsOpen z n x y
-is_open z n x y o a runs e =
-    let c : List ℕ = z.place.channel in
-    let k = doubt_is x.sends.in_doubt o (sym (ap (λ (q : Kept). q.doubt) (a.facts.tied.running runs)) ∙ e) in
-    let t = a.facts.tied.in_doubt k.data_ k.is in
-    let w = a.joint.tied.held t.2 in
-    let d = doubt_held (in_doubt_of (sender_data c n.manager)) (batch_of c n.manager.channels.batches) k.data_.unit (sym (ap (doubt_of c) a.at) ∙ w.1 ∙ t.1) (sym (ap (holds_of c) a.at) ∙ w.0 ∙ t.0) in
-    record { doubt = d.0; is = d.1; held = t.0 ∙ ap (λ v. Some v) (sym d.2) }
-
-committed : (z : Scene) (n : Node) (x k : Channel) (y : Past) (rs : List Plain) → IsAt z n x y → IsOpen z n x y → batch_of z.place.channel n.manager.channels.batches ≡ None → WasCommitted x y → k.receives ≡ x.receives
-    → IsNext z.sender n.manager (apply_all (settled_changes true z.place.channel (sender_or (sender_data z.place.channel n.manager))) n.manager) z.managers rs → Turned z (world_of z.scenario z.given rs) k (emptied y)
-committed z n x k y rs a o free was far h =
-    let c : List ℕ = z.place.channel in
-    let p : Plain = n.manager in
-    let d = sender_or (sender_data c p) in
-    let last : last_of z.scenario z.managers c (Some p) ≡ o.doubt.unit = sym (ap (last_of z.scenario z.managers c) a.at) ∙ a.joint.tied.last ∙ sym (was o.doubt.unit o.held) in
-    let inv = drops z.scenario z.given z.sender p z.managers rs c d o.doubt z.ghost z.book h free o.is last a.joint.inv in
-    changed z p _ rs z.ghost x k y (emptied y) a.joint h (settled_only true c p free) inv (settled_left z n true x k y z.ghost a free far refl refl refl)
-
-backed : (z : Scene) (n : Node) (x k : Channel) (y : Past) (rs : List Plain) → IsAt z n x y → IsOpen z n x y → batch_of z.place.channel n.manager.channels.batches ≡ None → WasNot x y → k.receives ≡ x.receives
-    → IsNext z.sender n.manager (apply_all (settled_changes false z.place.channel (sender_or (sender_data z.place.channel n.manager))) n.manager) z.managers rs → Turned z (world_of z.scenario z.given rs) k (emptied y)
-backed z n x k y rs a o free was far h =
-    let c : List ℕ = z.place.channel in
-    let p : Plain = n.manager in
-    let d = sender_or (sender_data c p) in
-    let last : last_of z.scenario z.managers c (Some p) ≢ o.doubt.unit = λ e. (was o.doubt.unit o.held).0 (sym e ∙ sym (ap (last_of z.scenario z.managers c) a.at) ∙ a.joint.tied.last) in
-    let inv = backs_out z.scenario z.given z.sender p z.managers rs c d o.doubt z.ghost z.book h free o.is last a.joint.inv in
-    changed z p _ rs (after z.ghost (freed z.ghost z.sender c)) x k y (emptied y) a.joint h (settled_only false c p free) inv (settled_left z n false x k y (after z.ghost (freed z.ghost z.sender c)) a free far refl refl refl)
-
 -- by whether it commits, with what the machine said
-settled : (z : Scene) (n : Node) (x k : Channel) (y : Past) (commit : Bool) (note : Noted) (rs : List Plain) → IsAt z n x y → IsOpen z n x y → batch_of z.place.channel n.manager.channels.batches ≡ None → (commit ≡ true → WasCommitted x y) → (commit ≡ false → WasNot x y) → k.receives ≡ x.receives
+settled : (z : Scene) (n : Node) (x k : Channel) (y : Past) (commit : Bool) (note : Noted) (rs : List Plain) → IsHere z n x y → IsDoubted z n y → batch_of z.place.channel n.manager.channels.batches ≡ None → (commit ≡ true → WasCommitted x y) → (commit ≡ false → WasNot x y) → k.receives ≡ x.receives
     → note.changes ≡ settled_changes commit z.place.channel (sender_or (sender_data z.place.channel n.manager)) → IsNext z.sender n.manager (redone note n.manager) z.managers rs → Turned z (world_of z.scenario z.given rs) k (emptied y)
 settled z n x k y true note rs a o free was not_ far says h =
     let c : List ℕ = z.place.channel in
@@ -177,14 +97,14 @@ settled z n x k y true note rs a o free was not_ far says h =
     let cs : List Change = settled_changes true c (sender_or (sender_data c p)) in
     let q : Plain = apply_all cs p in
     let e = world_behind z.scenario z.given z.sender p q _ z.managers rs h (redone_stays note cs p says) in
-    turned_on z _ (world_of z.scenario z.given rs) k (emptied y) (sym e) (committed z n x k y (change_at z.sender (λ (v : Plain). q) z.managers) a o free (was refl) far (next_mid z.sender p q _ z.managers rs h))
+    turned_on z _ (world_of z.scenario z.given rs) k (emptied y) (sym e) (committed_turned z n x k y (change_at z.sender (λ (v : Plain). q) z.managers) a o free (was refl) far (next_mid z.sender p q _ z.managers rs h))
 settled z n x k y false note rs a o free was not_ far says h =
     let c : List ℕ = z.place.channel in
     let p : Plain = n.manager in
     let cs : List Change = settled_changes false c (sender_or (sender_data c p)) in
     let q : Plain = apply_all cs p in
     let e = world_behind z.scenario z.given z.sender p q _ z.managers rs h (redone_stays note cs p says) in
-    turned_on z _ (world_of z.scenario z.given rs) k (emptied y) (sym e) (backed z n x k y (change_at z.sender (λ (v : Plain). q) z.managers) a o free (not_ refl) far (next_mid z.sender p q _ z.managers rs h))
+    turned_on z _ (world_of z.scenario z.given rs) k (emptied y) (sym e) (backed_turned z n x k y (change_at z.sender (λ (v : Plain). q) z.managers) a o free (not_ refl) far (next_mid z.sender p q _ z.managers rs h))
 
 -- A TURN
 none_commits : (z : Scene) (note : Noted) (x : Channel) (u : Luw) → None ≡ Some u → Mem (did.Hardened z.place.channel (notes.Resolved u true true)) note.delta × (Upto u x.receives.unit → ⊥)
@@ -218,7 +138,7 @@ prepares z n x y note t b last rs a is found says h =
     let sends : is_sending x.sender.state ≡ true = subst (λ (d : SenderDoes). Guard x.sender t.stock d) is.does (guarded x.sender t.seen t.stock) in
     let e = world_behind z.scenario z.given z.sender p q _ z.managers rs h (redone_stays note cs p says) in
     turn_on z note x y t does.Prepare rs is (turned_on z _ (world_of z.scenario z.given rs) _ _ (sym e)
-    (prepared z n x (sender_done does.Prepare t x) y b last (change_at z.sender (λ (v : Plain). q) z.managers) a (sending_at z n x y b a sends found) found refl (next_mid z.sender p q _ z.managers rs h)))
+    (prepared_turned z n x (sender_done does.Prepare t x) y b last (change_at z.sender (λ (v : Plain). q) z.managers) (here_in a) (is_in_sending z n x y b (here_in a) sends found) found refl (next_mid z.sender p q _ z.managers rs h)))
 
 -- what the table says of a turn that settles
 pub record IsWord_ (x : Channel) (y : Past) (commit : Bool) : Type 0 where
@@ -276,7 +196,7 @@ settles_ z n x y note t d commit rs a may is so free says h =
     let s : Said d t x y = subst (λ (o : SenderDoes). Said o t x y) is.does (said t x y a.facts may) in
     let w = word_of x y t d commit may so k s in
     turn_on z note x y t d rs is (subst (λ (l : Past). Turned z (world_of z.scenario z.given rs) (sender_done d t x) l) (settling_past d commit t y so)
-    (settled z n x (sender_done d t x) y commit note rs (is_at z n x y a w.off free) (is_open z n x y w.doubt a w.runs w.is) free w.was w.not_ refl says h))
+    (settled z n x (sender_done d t x) y commit note rs (here_in a) (is_doubted z n x y w.doubt (here_in a) w.runs w.is) free w.was w.not_ refl says h))
 
 -- OPERATORS
 numbers : (z : Scene) (n : Node) (x : Channel) (y : Past) (note : Noted) (last : ℕ) (rs : List Plain) → IsDown z n x y → note.changes ≡ (harden_part z.place.channel (notes.SeqSet ends.Sender last) n.manager).changes

@@ -40,7 +40,7 @@ use Rattle.mq_law_batches.proofs.Settling.{backs_out, drops, forces, settled_dou
 use Rattle.mq_law_batches.proofs.Wording.{Stays, stays, words}
 use Rattle.mq_law_turns.specs.Turns.{IsAt, Scene, Turned, TurnedBy, world_in}
 use Rattle.mq_law_turns.proofs.Parts.{changed, doubt_held, leaving_stays, next_mid, next_to, part_stays, same_turned, turned_on, world_behind}
-use Rattle.mq_law_turns.proofs.Sending.{IsSending, is_in_sending, released_turned, settled_only}
+use Rattle.mq_law_turns.proofs.Sending.{IsSending, here_of, is_in_sending, released_turned, settled_only}
 
 -- NOTHING OF ROWS
 -- a deed that leaves rows, batches and units: the channel's machine alone changes
@@ -99,12 +99,12 @@ stops_sending z n x y rs a e h =
     let c : List ℕ = z.place.channel in
     let p : Plain = n.manager in
     let b = a.sends.batched e in
-    let s : IsSending z n x y b.batch = is_in_sending z n x y b.batch a e b.is in
+    let s : IsSending z n x y b.batch = is_in_sending z n x y b.batch (here_of a) e b.is in
     let q : Plain = apply_all (release_changes c) p in
     let h1 = next_to z.sender p _ _ z.managers rs h (ap (λ o. do_all (parts_of (release_of c o) ++ parts_of (leave c p)) p) b.is) in
     let k = world_behind z.scenario z.given z.sender p q _ z.managers rs h1 (record { queues = refl; connections = refl; batches = refl; doubts = λ d. refl; near = record { given = refl; receivers = λ d. refl } }) in
     subst (λ t. Turned z (world_of z.scenario z.given rs) (sender_stopped x) (if t then y else emptied y)) (sym s.doubt)
-    (turned_on z _ (world_of z.scenario z.given rs) (sender_stopped x) (emptied y) (sym k) (released_turned z n x (sender_stopped x) y b.batch (change_at z.sender (λ (o : Plain). q) z.managers) a s b.is refl (next_mid z.sender p q _ z.managers rs h1)))
+    (turned_on z _ (world_of z.scenario z.given rs) (sender_stopped x) (emptied y) (sym k) (released_turned z n x (sender_stopped x) y b.batch (change_at z.sender (λ (o : Plain). q) z.managers) (here_of a) s b.is refl (next_mid z.sender p q _ z.managers rs h1)))
 
 pub stops : (z : Scene) (n : Node) (x : Channel) (y : Past) (rs : List Plain) → IsAt z n x y
     → IsNext z.sender n.manager (do_all (parts_of (release_batch z.place.channel n.manager) ++ parts_of (leave z.place.channel n.manager)) n.manager) z.managers rs → Turned z (world_of z.scenario z.given rs) (sender_stopped x) (released y)

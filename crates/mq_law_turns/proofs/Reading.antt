@@ -36,13 +36,12 @@ use Rattle.mq_calls.specs.State.Change.{Place as Places, Hold, Release, Renew, D
 use Rattle.mq_calls.specs.Reads.{batch_of, is_full, is_persistent, receiver_data, sender_data, stored}
 use Rattle.mq_sync.specs.Settlement.{receiver_or, sender_or}
 use Rattle.mq_calls.specs.Sizes.{need}
-use Rattle.mq_calls.specs.Changes.{apply_all, lane_of, new_row, release_if, retag_if, selects}
+use Rattle.mq_calls.specs.Changes.{lane_of, new_row, release_if, retag_if, selects}
 use Rattle.mq_calls.specs.Steps.{Part, do_all, logged, refused_or}
 use Rattle.mq_calls.specs.Steps.Step.{Do}
 use Rattle.mq_spec_manager.specs.Get.{expired_parts}
 use Rattle.mq_spec_manager.specs.Put.{placed}
-use Rattle.mq_spec_manager.specs.Agents.{Standing, Absent, InDoubtAt, Present, harden, hold_batch, batch_idents, batch_queue, before, drop_changes, expired_rows, is_present, land, land_changes, Landed, landed, landed_by, landed_unless, leave, prepare_of, prepared_changes, prepared_record, queue_of_sender, receive_landed, received_record, release_of, row_with, standing_at, undoubted}
-use Rattle.mq_spec_manager.specs.Landing.{Landing}
+use Rattle.mq_spec_manager.specs.Agents.{Standing, Absent, InDoubtAt, Present, harden, hold_batch, batch_idents, batch_queue, drop_changes, expired_rows, land_changes, Landed, landed, leave, prepare_of, prepared_changes, prepared_record, queue_of_sender, receive_landed, received_record, release_of, row_with, undoubted}
 use Rattle.mq_spec_node.specs.Node.{Node, ReceiverEnd, SenderEnd}
 use Rattle.mq_spec_node.specs.Deeds.{parts_of}
 use Rattle.mq_spec_node.specs.Receivers.{place_deed, receiver_deed_by}
@@ -53,6 +52,7 @@ use Rattle.mq_law_rows.proofs.Lists.{bool_case, mem_insert, mem_keep, mem_retag,
 use Rattle.mq_law_manager.specs.Facts.{IsSound}
 use Rattle.mq_law_manager.proofs.Lists.{distinct_of}
 use Rattle.mq_law_manager.proofs.Named.{name_yes}
+use Rattle.mq_law_seized.proofs.Landing.{LandedHas, landed_has}
 use Rattle.mq_law_node.specs.Ends.{Reads, letter_of}
 use Rattle.mq_law_node.specs.Rows.{RowKind, Same, Placed, Kept, Retagged, Emptied, row_kind, rows_at, rows_do}
 use Rattle.mq_law_node.proofs.Batches.{found, get_mem}
@@ -207,25 +207,15 @@ drops_others c m Absent = undoubted_others c (is_persistent m) m.ident
 drops_others c m Present = undoubted_others c (is_persistent m) m.ident
 drops_others c m (InDoubtAt q) = undoubted_others c (is_persistent m) m.ident
 
+abbrev IsForOthers : List ℕ → Landed → Type 0
+IsForOthers c l = all_for_others c l.changes ≡ true
+
 abbrev EachLanding : List ℕ → Result Landed Reason → Type 0
-EachLanding c (Err reason) = Unit {0}
-EachLanding c (Ok l) = all_for_others c l.changes ≡ true
-
-before_others : (c : List ℕ) (m : Message) (l : Landing) (s : Standing) (o : Result Landed Reason) → EachLanding c o → EachLanding c (before m l s o)
-before_others c m l s (Err reason) k = tt
-before_others c m l s (Ok r) k = all_behind (is_for_others c) (land_changes l s) r.changes (all_behind (is_for_others c) (drop_changes l.message s) (placed l.queue l.message) (drops_others c l.message s) refl) k
-
-by_others : (c : List ℕ) (o : Result Landing Reason) (m : Message) (s : Standing) (p : Plain) (rest : Plain → Result Landed Reason) → ((q : Plain) → EachLanding c (rest q)) → EachLanding c (landed_by o m s p rest)
-by_others c (Err reason) m s p rest k = tt
-by_others c (Ok l) m s p rest k = before_others c m l s (rest (apply_all (land_changes l s) p)) (k (apply_all (land_changes l s) p))
-
-unless_others : (c d : List ℕ) (t : Bool) (m : Message) (s : Standing) (p : Plain) (rest : Plain → Result Landed Reason) → ((q : Plain) → EachLanding c (rest q)) → EachLanding c (landed_unless t d m s p rest)
-unless_others c d true m s p rest k = k p
-unless_others c d false m s p rest k = by_others c (land d m p) m s p rest k
+EachLanding c r = LandedHas (IsForOthers c) r
 
 landed_others : (c d : List ℕ) (ms : List Message) (p : Plain) → EachLanding c (landed d ms p)
-landed_others c d [] p = refl
-landed_others c d (m ∷ ms) p = unless_others c d (is_present (standing_at m p)) m (standing_at m p) p (λ q. landed d ms q) (λ q. landed_others c d ms q)
+landed_others c d ms p = landed_has (IsForOthers c) refl
+    (λ m l s rest k. all_behind (is_for_others c) (land_changes l s) rest.changes (all_behind (is_for_others c) (drop_changes l.message s) (placed l.queue l.message) (drops_others c l.message s) refl) k) d ms p
 
 places_others : (c : List ℕ) (e : ReceiverEnd) (unit : Luw) (seen : Seen) (last : ℕ) (o : Result Landed Reason) (n : Node) → EachLanding c o → EachForOthers c (Some (place_deed e unit seen (receive_landed e.channel unit last o n.manager) n))
 places_others c e unit seen last (Err reason) n k = refl

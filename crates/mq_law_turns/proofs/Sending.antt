@@ -71,7 +71,7 @@ use Rattle.mq_law_node.proofs.SenderTable.{may_turn, prepared_by}
 use Rattle.mq_law_node.proofs.SenderTurns.{binding_apart, guarded, idle_apart, waiting_apart}
 use Rattle.mq_law_story.specs.Needs.{letter_tag}
 use Rattle.mq_law_story.proofs.Tying.{next_tied, unprepared_tied}
-use Rattle.mq_law_turns.specs.Turns.{EachTurned, IsAlone, IsAt, IsJoint, Scene, Turned, is_expiry, world_in}
+use Rattle.mq_law_turns.specs.Turns.{EachTurned, IsAlone, IsAt, IsHere, IsJoint, Scene, Turned, is_expiry, world_in}
 use Rattle.mq_law_turns.proofs.Parts.{IsLeft, IsOnly, changed, doubt_held, here_holds, leaving_stays, next_mid, next_to, no_doubt_held, not_doubted, part_stays, same_turned, stays_none, stays_then, turned_on, world_behind}
 
 -- no part at all
@@ -297,6 +297,9 @@ begins z n x y stamp seen k count a alone g rs h =
     let t = begun_turned z n x (sender_done (does.Begin k count) (turn_of z.place stamp seen x.sender n.manager) x) y (unit_named x.sender.kept.session k) count rs a g.0 alone refl u h in
     subst (λ (j : ℕ). Turned z (world_of z.scenario z.given rs) (sender_done (does.Begin k count) (turn_of z.place stamp seen x.sender n.manager) x) (begun_unit y (letters_of (take j (free_rows q n.manager))))) g.2 t
 
+pub here_of : {z : Scene} {n : Node} {x : Channel} {y : Past} → IsAt z n x y → IsHere z n x y
+here_of a = record { at = a.at; facts = a.facts; joint = a.joint }
+
 -- PREPARE
 -- what holds while a unit is sent
 pub record IsSending (z : Scene) (n : Node) (x : Channel) (y : Past) (b : Batch) : Type 0 where
@@ -306,7 +309,7 @@ pub record IsSending (z : Scene) (n : Node) (x : Channel) (y : Past) (b : Batch)
   pub held : y.near.holds ≡ Some b.unit
   pub apart : last_of z.scenario z.managers z.place.channel (Some n.manager) ≢ b.unit
 
-pub is_in_sending : (z : Scene) (n : Node) (x : Channel) (y : Past) (b : Batch) → IsAt z n x y → is_sending x.sender.state ≡ true → batch_of z.place.channel n.manager.channels.batches ≡ Some b → IsSending z n x y b
+pub is_in_sending : (z : Scene) (n : Node) (x : Channel) (y : Past) (b : Batch) → IsHere z n x y → is_sending x.sender.state ≡ true → batch_of z.place.channel n.manager.channels.batches ≡ Some b → IsSending z n x y b
 is_in_sending z n x y b a e is =
     let c : List ℕ = z.place.channel in
     let fits = fits_sending x.sender.state x.sender y.near y.content x.batch e (fits_at x y x.sender.state a.facts.tied refl) in
@@ -322,7 +325,7 @@ is_in_sending z n x y b a e is =
       apart = λ f. unprepared_tied (world_in z) z.ghost z.sender z.receiver c x y a.joint.tied a.facts plain fits.1 b.unit holds (ap (last_of z.scenario z.managers c) a.at ∙ f);
     }
 
-prepared_turned : (z : Scene) (n : Node) (x k : Channel) (y : Past) (b : Batch) (last : ℕ) (rs : List Plain) → IsAt z n x y → IsSending z n x y b → batch_of z.place.channel n.manager.channels.batches ≡ Some b → k.receives ≡ x.receives
+pub prepared_turned : (z : Scene) (n : Node) (x k : Channel) (y : Past) (b : Batch) (last : ℕ) (rs : List Plain) → IsHere z n x y → IsSending z n x y b → batch_of z.place.channel n.manager.channels.batches ≡ Some b → k.receives ≡ x.receives
     → IsNext z.sender n.manager (apply_all (prepared_changes z.place.channel last b (sender_or (sender_data z.place.channel n.manager))) n.manager) z.managers rs
     → Turned z (world_of z.scenario z.given rs) k (record y { near = record y.near { doubt = true } })
 prepared_turned z n x k y b last rs a s is far h =
@@ -348,7 +351,7 @@ prepared_turned z n x k y b last rs a s is far h =
       loose = λ o e v f. f;
     })
 
-pub released_turned : (z : Scene) (n : Node) (x k : Channel) (y : Past) (b : Batch) (rs : List Plain) → IsAt z n x y → IsSending z n x y b → batch_of z.place.channel n.manager.channels.batches ≡ Some b → k.receives ≡ x.receives
+pub released_turned : (z : Scene) (n : Node) (x k : Channel) (y : Past) (b : Batch) (rs : List Plain) → IsHere z n x y → IsSending z n x y b → batch_of z.place.channel n.manager.channels.batches ≡ Some b → k.receives ≡ x.receives
     → IsNext z.sender n.manager (apply_all (release_changes z.place.channel) n.manager) z.managers rs → Turned z (world_of z.scenario z.given rs) k (emptied y)
 released_turned z n x k y b rs a s is far h =
     let p : Plain = n.manager in
@@ -388,7 +391,7 @@ prepares z n x y stamp seen a e =
     let b = a.sends.batched e in
     let last : ℕ = number_sent x.sender.state x.sender.kept.last in
     let t : SenderTurn = turn_of z.place stamp seen x.sender p in
-    let s : IsSending z n x y b.batch = is_in_sending z n x y b.batch a e b.is in
+    let s : IsSending z n x y b.batch = is_in_sending z n x y b.batch (here_of a) e b.is in
     subst (λ (o : Option Batch). EachTurned z p (Some (prepare_deed (sender_of z.place x.sender) (prepare_of c last o p) n)) (sender_turned (prepare_out (prepare_of c last o p)) does.Prepare t x) (past_turned (prepare_out (prepare_of c last o p)) does.Prepare t y)) (sym b.is)
     (bool_case (is_full (need (prepared_record c last b.batch)) p)
     (λ f. EachTurned z p (Some (prepare_deed (sender_of z.place x.sender) (prepared_by z.place last b.batch p f) n)) (sender_turned (prepare_out (prepared_by z.place last b.batch p f)) does.Prepare t x) (past_turned (prepare_out (prepared_by z.place last b.batch p f)) does.Prepare t y))
@@ -396,12 +399,12 @@ prepares z n x y stamp seen a e =
     let q : Plain = apply_all (release_changes c) p in
     let h1 = next_to z.sender p _ _ z.managers rs h (ap (λ o. do_all (parts_of (release_of c o) ++ parts_of (leave c p)) p) b.is) in
     let k = world_behind z.scenario z.given z.sender p q _ z.managers rs h1 (record { queues = refl; connections = refl; batches = refl; doubts = λ d. refl; near = record { given = refl; receivers = λ d. refl } }) in
-    turned_on z _ (world_of z.scenario z.given rs) _ _ (sym k) (released_turned z n x _ y b.batch (change_at z.sender (λ (o : Plain). q) z.managers) a s b.is refl (next_mid z.sender p q _ z.managers rs h1)))
+    turned_on z _ (world_of z.scenario z.given rs) _ _ (sym k) (released_turned z n x _ y b.batch (change_at z.sender (λ (o : Plain). q) z.managers) (here_of a) s b.is refl (next_mid z.sender p q _ z.managers rs h1)))
     (λ f rs h.
     let d = sender_or (sender_data c p) in
     let q : Plain = apply_all (prepared_changes c last b.batch d) p in
     let k = world_behind z.scenario z.given z.sender p q _ z.managers rs h (part_stays (record { forced = Some (prepared_record c last b.batch); changes = prepared_changes c last b.batch d; delta = [] }) p) in
-    turned_on z _ (world_of z.scenario z.given rs) _ _ (sym k) (prepared_turned z n x _ y b.batch last (change_at z.sender (λ (o : Plain). q) z.managers) a s b.is refl (next_mid z.sender p q _ z.managers rs h))))
+    turned_on z _ (world_of z.scenario z.given rs) _ _ (sym k) (prepared_turned z n x _ y b.batch last (change_at z.sender (λ (o : Plain). q) z.managers) (here_of a) s b.is refl (next_mid z.sender p q _ z.managers rs h))))
 
 -- SETTLED
 -- the unit that the machine knows to be in doubt is so at the manager
@@ -412,7 +415,7 @@ pub record IsDoubted (z : Scene) (n : Node) (y : Past) : Type 0 where
   pub sure : y.near.doubt ≡ true
   pub plain : y.forced ≡ false
 
-is_doubted : (z : Scene) (n : Node) (x : Channel) (y : Past) (o : Doubt) → IsAt z n x y → is_running x.sender.state ≡ true → x.sender.kept.doubt ≡ Some o → IsDoubted z n y
+pub is_doubted : (z : Scene) (n : Node) (x : Channel) (y : Past) (o : Doubt) → IsHere z n x y → is_running x.sender.state ≡ true → x.sender.kept.doubt ≡ Some o → IsDoubted z n y
 is_doubted z n x y o a runs e =
     let c : List ℕ = z.place.channel in
     let k = doubt_is x.sends.in_doubt o (sym (ap (λ (q : Kept). q.doubt) (a.facts.tied.running runs)) ∙ e) in
@@ -421,7 +424,7 @@ is_doubted z n x y o a runs e =
     let d = doubt_held (in_doubt_of (sender_data c n.manager)) (batch_of c n.manager.channels.batches) k.data_.unit (sym (ap (doubt_of c) a.at) ∙ w.1 ∙ t.1) (sym (ap (holds_of c) a.at) ∙ w.0 ∙ t.0) in
     record { doubt = d.0; is = d.1; held = t.0 ∙ ap (λ v. Some v) (sym d.2); sure = t.1; plain = t.2 }
 
-pub settled_left : (z : Scene) (n : Node) (commit : Bool) (x k : Channel) (y : Past) (g : Ghost) → IsAt z n x y → batch_of z.place.channel n.manager.channels.batches ≡ None → k.receives ≡ x.receives → g.operated ≡ z.ghost.operated → g.loose ≡ z.ghost.loose → g.sent ≡ z.ghost.sent
+pub settled_left : (z : Scene) (n : Node) (commit : Bool) (x k : Channel) (y : Past) (g : Ghost) → IsHere z n x y → batch_of z.place.channel n.manager.channels.batches ≡ None → k.receives ≡ x.receives → g.operated ≡ z.ghost.operated → g.loose ≡ z.ghost.loose → g.sent ≡ z.ghost.sent
     → IsLeft None z (apply_all (settled_changes commit z.place.channel (sender_or (sender_data z.place.channel n.manager))) n.manager) g x k (emptied y)
 settled_left z n commit x k y g a free far ops loose sent =
     let c : List ℕ = z.place.channel in
@@ -454,7 +457,7 @@ settled_only commit c p free =
     settled_near true c p = record { given = refl; receivers = λ e. refl }
     settled_near false c p = record { given = refl; receivers = λ e. refl }
 
-committed_turned : (z : Scene) (n : Node) (x k : Channel) (y : Past) (rs : List Plain) → IsAt z n x y → IsDoubted z n y → batch_of z.place.channel n.manager.channels.batches ≡ None → WasCommitted x y → k.receives ≡ x.receives
+pub committed_turned : (z : Scene) (n : Node) (x k : Channel) (y : Past) (rs : List Plain) → IsHere z n x y → IsDoubted z n y → batch_of z.place.channel n.manager.channels.batches ≡ None → WasCommitted x y → k.receives ≡ x.receives
     → IsNext z.sender n.manager (apply_all (settled_changes true z.place.channel (sender_or (sender_data z.place.channel n.manager))) n.manager) z.managers rs → Turned z (world_of z.scenario z.given rs) k (emptied y)
 committed_turned z n x k y rs a o free was far h =
     let c : List ℕ = z.place.channel in
@@ -464,7 +467,7 @@ committed_turned z n x k y rs a o free was far h =
     let inv = drops z.scenario z.given z.sender p z.managers rs c d o.doubt z.ghost z.book h free o.is last a.joint.inv in
     changed z p _ rs z.ghost x k y (emptied y) a.joint h (settled_only true c p free) inv (settled_left z n true x k y z.ghost a free far refl refl refl)
 
-backed_turned : (z : Scene) (n : Node) (x k : Channel) (y : Past) (rs : List Plain) → IsAt z n x y → IsDoubted z n y → batch_of z.place.channel n.manager.channels.batches ≡ None → WasNot x y → k.receives ≡ x.receives
+pub backed_turned : (z : Scene) (n : Node) (x k : Channel) (y : Past) (rs : List Plain) → IsHere z n x y → IsDoubted z n y → batch_of z.place.channel n.manager.channels.batches ≡ None → WasNot x y → k.receives ≡ x.receives
     → IsNext z.sender n.manager (apply_all (settled_changes false z.place.channel (sender_or (sender_data z.place.channel n.manager))) n.manager) z.managers rs → Turned z (world_of z.scenario z.given rs) k (emptied y)
 backed_turned z n x k y rs a o free was far h =
     let c : List ℕ = z.place.channel in
@@ -475,7 +478,7 @@ backed_turned z n x k y rs a o free was far h =
     changed z p _ rs (after z.ghost (freed z.ghost z.sender c)) x k y (emptied y) a.joint h (settled_only false c p free) inv (settled_left z n false x k y (after z.ghost (freed z.ghost z.sender c)) a free far refl refl refl)
 
 -- the part that settles, and then the end may leave its queue
-commits : (z : Scene) (n : Node) (x k : Channel) (y : Past) (u : Luw) (st : SenderState) (rs : List Plain) → IsAt z n x y → IsDoubted z n y → batch_of z.place.channel n.manager.channels.batches ≡ None → WasCommitted x y → k.receives ≡ x.receives
+commits : (z : Scene) (n : Node) (x k : Channel) (y : Past) (u : Luw) (st : SenderState) (rs : List Plain) → IsHere z n x y → IsDoubted z n y → batch_of z.place.channel n.manager.channels.batches ≡ None → WasCommitted x y → k.receives ≡ x.receives
     → IsNext z.sender n.manager (do_all (harden_part z.place.channel (notes.Resolved u true false) n.manager ∷ leave_if_stopped z.place.channel st n.manager) n.manager) z.managers rs → Turned z (world_of z.scenario z.given rs) k (emptied y)
 commits z n x k y u st rs a o free was far h =
     let c : List ℕ = z.place.channel in
@@ -485,7 +488,7 @@ commits z n x k y u st rs a o free was far h =
     let e = world_behind z.scenario z.given z.sender p q _ z.managers rs h (stays_then q (do_part part p) _ (part_stays part p) (leaving_stays c st p (do_part part p))) in
     turned_on z _ (world_of z.scenario z.given rs) k (emptied y) (sym e) (committed_turned z n x k y (change_at z.sender (λ (v : Plain). q) z.managers) a o free was far (next_mid z.sender p q _ z.managers rs h))
 
-backs : (z : Scene) (n : Node) (x k : Channel) (y : Past) (u : Luw) (st : SenderState) (rs : List Plain) → IsAt z n x y → IsDoubted z n y → batch_of z.place.channel n.manager.channels.batches ≡ None → WasNot x y → k.receives ≡ x.receives
+backs : (z : Scene) (n : Node) (x k : Channel) (y : Past) (u : Luw) (st : SenderState) (rs : List Plain) → IsHere z n x y → IsDoubted z n y → batch_of z.place.channel n.manager.channels.batches ≡ None → WasNot x y → k.receives ≡ x.receives
     → IsNext z.sender n.manager (do_all (harden_part z.place.channel (notes.Resolved u false false) n.manager ∷ leave_if_stopped z.place.channel st n.manager) n.manager) z.managers rs → Turned z (world_of z.scenario z.given rs) k (emptied y)
 backs z n x k y u st rs a o free was far h =
     let c : List ℕ = z.place.channel in
@@ -565,10 +568,10 @@ binds : (z : Scene) (n : Node) (x : Channel) (y : Past) (stamp : ℕ) (seen : Se
 binds z n x y stamp seen None partner a g s rs h = status_none z n x _ y _ rs a g.0 (settled_none x.sender.kept.doubt (status_unit seen) g.1) refl h
 binds z n x y stamp seen (Some settles.Commit) partner a g s rs h =
     let q = settled_some x.sender.kept.doubt (status_unit seen) settles.Commit g.1 in
-    commits z n x _ y (doubted x.sender.kept.doubt) _ rs a (is_doubted z n x y q.0 a (ap is_running (binding_is x.sender.state g.0)) q.1) (a.sends.unbatched (binding_apart x.sender.state g.0)) s.2 refl h
+    commits z n x _ y (doubted x.sender.kept.doubt) _ rs (here_of a) (is_doubted z n x y q.0 (here_of a) (ap is_running (binding_is x.sender.state g.0)) q.1) (a.sends.unbatched (binding_apart x.sender.state g.0)) s.2 refl h
 binds z n x y stamp seen (Some settles.Backout) partner a g s rs h =
     let q = settled_some x.sender.kept.doubt (status_unit seen) settles.Backout g.1 in
-    backs z n x _ y (doubted x.sender.kept.doubt) _ rs a (is_doubted z n x y q.0 a (ap is_running (binding_is x.sender.state g.0)) q.1) (a.sends.unbatched (binding_apart x.sender.state g.0)) s.2 refl h
+    backs z n x _ y (doubted x.sender.kept.doubt) _ rs (here_of a) (is_doubted z n x y q.0 (here_of a) (ap is_running (binding_is x.sender.state g.0)) q.1) (a.sends.unbatched (binding_apart x.sender.state g.0)) s.2 refl h
 
 -- THE TABLE
 turned_by : (z : Scene) (n : Node) (x : Channel) (y : Past) (stamp : ℕ) (seen : Seen) (d : SenderDoes) → IsAt z n x y → IsAlone z n x → SeenIn seen x.back → Guard x.sender (stock z.place.channel n.manager) d → Settling x.sender seen d → Said d (turn_of z.place stamp seen x.sender n.manager) x y
@@ -586,10 +589,10 @@ turned_by z n x y stamp seen does.PushEnd a alone o g k s e = λ rs h. quiet z n
 turned_by z n x y stamp seen (does.Bound settle partner) a alone o g k s e = binds z n x y stamp seen settle partner a k s
 turned_by z n x y stamp seen does.Commit a alone o g k s e = λ rs h.
     let q = ack_told x.sender.kept.doubt seen x.back k.1 o in
-    commits z n x _ y (doubted x.sender.kept.doubt) (sender_after x.sender does.Commit outs.Done).state rs a (is_doubted z n x y q.doubt a (ap is_running (waiting_is x.sender.state k.0)) q.is) (a.sends.unbatched (waiting_apart x.sender.state k.0)) s refl h
+    commits z n x _ y (doubted x.sender.kept.doubt) (sender_after x.sender does.Commit outs.Done).state rs (here_of a) (is_doubted z n x y q.doubt (here_of a) (ap is_running (waiting_is x.sender.state k.0)) q.is) (a.sends.unbatched (waiting_apart x.sender.state k.0)) s refl h
 turned_by z n x y stamp seen (does.Backout reason) a alone o g k s e = λ rs h.
     let q = err_told x.sender.kept.doubt seen x.back k.1 o in
-    backs z n x _ y (doubted x.sender.kept.doubt) (sender_after x.sender (does.Backout reason) outs.Done).state rs a (is_doubted z n x y q.doubt a (ap is_running (waiting_is x.sender.state k.0)) q.is) (a.sends.unbatched (waiting_apart x.sender.state k.0)) s refl h
+    backs z n x _ y (doubted x.sender.kept.doubt) (sender_after x.sender (does.Backout reason) outs.Done).state rs (here_of a) (is_doubted z n x y q.doubt (here_of a) (ap is_running (waiting_is x.sender.state k.0)) q.is) (a.sends.unbatched (waiting_apart x.sender.state k.0)) s refl h
 
 pub turns : (z : Scene) (n : Node) (x : Channel) (y : Past) (stamp : ℕ) (seen : Seen) → slice_get z.managers z.sender ≡ Some n.manager → SendsAs z.place n x → Facts x y → IsJoint (world_in z) z.ghost z.book z.sender z.receiver z.place.channel x y → IsAlone z n x → SeenIn seen x.back
     → is_expiry (sender_next x.sender seen (stock z.place.channel n.manager)) ≡ false

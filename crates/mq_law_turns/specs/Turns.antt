@@ -67,6 +67,12 @@ pub record IsAt (z : Scene) (n : Node) (x : Channel) (y : Past) : Type 0 where
   pub facts : Facts x y
   pub joint : IsJoint (world_in z) z.ghost z.book z.sender z.receiver z.place.channel x y
 
+-- its manager stands there with the channel's facts, whatever its own end has: also where a write of its was stopped
+pub record IsHere (z : Scene) (n : Node) (x : Channel) (y : Past) : Type 0 where
+  pub at : slice_get z.managers z.sender ≡ Some n.manager
+  pub facts : Facts x y
+  pub joint : IsJoint (world_in z) z.ghost z.book z.sender z.receiver z.place.channel x y
+
 -- and the receiver's end
 pub record IsAtFar (z : Scene) (n : Node) (x : Channel) (y : Past) (l : Ledger) : Type 0 where
   pub at : slice_get z.managers z.receiver ≡ Some n.manager
