@@ -1,6 +1,8 @@
 //! What several tests begin with.
 
+use mq_cable::{Fault, Faults, Items, Near, Offers};
 use mq_message::Md;
+use std::alloc::Global;
 
 /// A descriptor with blanks and zeros in the fields that no test looks at.
 pub fn descriptor() -> Md {
@@ -27,5 +29,25 @@ pub fn descriptor() -> Md {
         put_date: *b"20260101",
         put_time: *b"12345678",
         appl_origin_data: [b' '; 4],
+    }
+}
+
+/// An end of a cable on which nothing stands; nothing, where memory lacks.
+pub fn near(alloc: Global) -> Option<Near> {
+    let read = Items::new(alloc).ok()?;
+    let write = Items::new(alloc).ok()?;
+    Some(Near {
+        read,
+        write,
+        fulls: 0,
+        empties: 0,
+    })
+}
+
+/// What is offered under these faults; nothing, where memory lacks.
+pub fn offers(alloc: Global, faults: &[Fault]) -> Option<Offers> {
+    match Faults::from_slice(alloc, faults) {
+        Ok(faults) => Some(Offers::new(alloc, faults)),
+        Err(_) => None,
     }
 }

@@ -1,8 +1,8 @@
 //! mq_sender and mq_receiver over a cable with faults, turn by turn, as a PUMP takes them.
 
-use crate::fixture::descriptor;
+use crate::fixture::{descriptor, near, offers};
 use mq_base::{Items as List, QName};
-use mq_cable::{Fault, Faults, Item, Items, Near, Offers};
+use mq_cable::{Fault, Item, Items, Near, Offers};
 use mq_frame::{Frame, FrameKind, Seen, encode, seen_of};
 use mq_message::{Dest, Ident, Message};
 use mq_receiver::{Receiver, ReceiverDoes, ReceiverOut};
@@ -31,13 +31,8 @@ struct Pair {
     stamp: u64,
 }
 
-fn joined(
-    alloc: Global,
-    out: &[Fault],
-    back: &[Fault],
-    puts: u64,
-    batch_size: u32,
-) -> Result<Pair, Fail> {
+/// A sender with batches of this size.
+fn started(batch_size: u32) -> Sender {
     let limits = Limits {
         batch_size,
         sequence_wrap: 999999999,
@@ -45,18 +40,21 @@ fn joined(
     };
     let mut sender = Sender::new();
     sender.start(Kept::of(None), limits);
-    Ok(Pair {
-        sender,
+    sender
+}
+
+/// The two ends over a cable with the faults of a case; nothing, where memory lacks.
+fn joined(alloc: Global, case: &Case) -> Option<Pair> {
+    let wire = near(alloc)?;
+    let out = offers(alloc, case.out)?;
+    let back = offers(alloc, case.back)?;
+    Some(Pair {
+        sender: started(case.batch_size),
         receiver: Receiver::of(None),
-        wire: Near {
-            read: Items::new(alloc)?,
-            write: Items::new(alloc)?,
-            fulls: 0,
-            empties: 0,
-        },
-        out: Offers::new(alloc, Faults::from_slice(alloc, out)?),
-        back: Offers::new(alloc, Faults::from_slice(alloc, back)?),
-        free: puts,
+        wire,
+        out,
+        back,
+        free: case.puts,
         held: 0,
         kept: 0,
         arrived: 0,
@@ -64,24 +62,36 @@ fn joined(
     })
 }
 
-/// What an end sees of the direction that it reads.
-fn front(alloc: Global, read: &Items) -> Result<Seen, Fail> {
+/// What an end sees of the direction that it reads; nothing at all, where memory lacks.
+fn front(alloc: Global, read: &Items) -> Option<Seen> {
     match read.front() {
-        None => Ok(Seen::Nothing),
-        Some(item) => Ok(seen_of(alloc, item.bytes.as_slice())?),
+        None => Some(Seen::Nothing),
+        Some(item) => seen_of(alloc, item.bytes.as_slice()).ok(),
     }
 }
 
-/// A frame is offered on the direction that an end writes.
-fn offer(alloc: Global, offers: &mut Offers, wire: &mut Near, frame: &Frame) -> Result<(), Fail> {
-    let item = Item {
-        stamp: frame.stamp,
-        bytes: encode(alloc, frame)?,
-    };
-    if offers.number() < 1000 && item.stamp < 1000 {
+/// An item is offered; false, where numbers are no longer small.
+fn push(offers: &mut Offers, wire: &mut Near, item: Item) -> bool {
+    let small = offers.number() < 1000 && item.stamp < 1000;
+    if small {
         let _extras = offers.offer(item, wire);
     }
-    Ok(())
+    small
+}
+
+/// A frame is offered on the direction that an end writes; false, where memory lacks.
+fn offer(alloc: Global, offers: &mut Offers, wire: &mut Near, frame: &Frame) -> bool {
+    match encode(alloc, frame) {
+        Ok(bytes) => push(
+            offers,
+            wire,
+            Item {
+                stamp: frame.stamp,
+                bytes,
+            },
+        ),
+        Err(_) => false,
+    }
 }
 
 /// Which message of its unit waits, from 1.
@@ -151,90 +161,132 @@ impl Pair {
         }
     }
 
-    /// A turn of the sender; false where nothing changed.
-    fn sends(&mut self, alloc: Global) -> Result<bool, Fail> {
-        let seen = front(alloc, &self.wire.read)?;
+    /// Pushes the frame of a sender's turn, if it pushes one; false, where memory lacks.
+    fn pushes(&mut self, alloc: Global, does: &SenderDoes) -> bool {
+        match self.frame(alloc, does) {
+            Some(frame) => offer(alloc, &mut self.out, &mut self.wire, &frame),
+            None => true,
+        }
+    }
+
+    /// What the sender's table says of a turn; Still, where numbers are no longer small.
+    fn says(&self, seen: &Seen) -> SenderDoes {
         let stock = Stock {
             enabled: true,
             expired: false,
             free: self.free,
         };
         if self.sender.kept.session > 9 || self.sender.begun > 9 || self.stamp > 900 {
-            return Ok(false);
+            return SenderDoes::Still;
         }
-        let does = self.sender.next(&seen, &stock);
-        if does == SenderDoes::Still {
-            return Ok(false);
-        }
-        self.stamp += 1;
-        match self.frame(alloc, &does) {
-            Some(frame) => offer(alloc, &mut self.out, &mut self.wire, &frame)?,
-            None => {}
+        self.sender.next(seen, &stock)
+    }
+
+    /// A turn of the sender that does this.
+    fn sent(&mut self, alloc: Global, seen: &Seen, does: &SenderDoes) -> bool {
+        self.stamp = self.stamp.saturating_add(1);
+        if !self.pushes(alloc, does) {
+            return false;
         }
         if !matches!(seen, Seen::Nothing) {
             let _item = self.wire.read.pop();
         }
-        self.moves(&does);
-        self.sender.done(&does, &SenderOut::Done);
-        Ok(true)
+        self.moves(does);
+        self.sender.done(does, &SenderOut::Done);
+        true
     }
 
-    /// A turn of the receiver; false where nothing changed.
-    fn receives(&mut self, alloc: Global) -> Result<bool, Fail> {
-        let seen = front(alloc, &self.wire.write)?;
-        let does = self.receiver.next(&seen, true);
-        if does == ReceiverDoes::Still || self.stamp > 900 {
-            return Ok(false);
+    /// A turn of the sender; false where nothing changed, or memory lacks.
+    fn sends(&mut self, alloc: Global) -> bool {
+        match front(alloc, &self.wire.read) {
+            Some(seen) => {
+                let does = self.says(&seen);
+                does != SenderDoes::Still && self.sent(alloc, &seen, &does)
+            }
+            None => false,
         }
-        self.stamp += 1;
-        match (does, self.receiver.owes()) {
-            (ReceiverDoes::PushOwed, Some(owed)) => {
+    }
+
+    /// Pushes what the receiver owes; false, where memory lacks.
+    fn answers(&mut self, alloc: Global) -> bool {
+        match self.receiver.owes() {
+            Some(owed) => {
+                let frame = owed.frame(self.stamp);
                 std::mem::swap(&mut self.wire.read, &mut self.wire.write);
-                let offered = offer(
-                    alloc,
-                    &mut self.back,
-                    &mut self.wire,
-                    &owed.frame(self.stamp),
-                );
+                let offered = offer(alloc, &mut self.back, &mut self.wire, &frame);
                 std::mem::swap(&mut self.wire.read, &mut self.wire.write);
-                offered?;
+                offered
             }
-            (ReceiverDoes::Keep, _) => {
-                let _item = self.wire.write.pop();
-                self.kept = index_of(&seen);
-            }
-            (ReceiverDoes::Place(_), _) => {
-                let _item = self.wire.write.pop();
+            None => false,
+        }
+    }
+
+    /// What a receiver's turn makes of the frame that it takes.
+    fn takes(&mut self, seen: &Seen, does: &ReceiverDoes) {
+        let _item = self.wire.write.pop();
+        match *does {
+            ReceiverDoes::Keep => self.kept = index_of(seen),
+            ReceiverDoes::Place(_) => {
                 self.arrived = self.arrived.saturating_add(self.kept);
                 self.kept = 0;
             }
-            _ => {
-                let _item = self.wire.write.pop();
-            }
+            _ => {}
         }
-        self.receiver.done(&does, &seen, &ReceiverOut::Done);
-        Ok(true)
     }
 
-    /// So many turns at most, the sender's first in each round; a timeout where a round changed nothing. How many were taken.
-    fn pump(&mut self, alloc: Global, most: u32) -> Result<u32, Fail> {
+    /// A turn of the receiver that does this.
+    fn received(&mut self, alloc: Global, seen: &Seen, does: &ReceiverDoes) -> bool {
+        self.stamp = self.stamp.saturating_add(1);
+        if *does == ReceiverDoes::PushOwed {
+            if !self.answers(alloc) {
+                return false;
+            }
+        } else {
+            self.takes(seen, does);
+        }
+        self.receiver.done(does, seen, &ReceiverOut::Done);
+        true
+    }
+
+    /// A turn of the receiver; false where nothing changed, or memory lacks.
+    fn receives(&mut self, alloc: Global) -> bool {
+        match front(alloc, &self.wire.write) {
+            Some(seen) => {
+                let does = self.receiver.next(&seen, true);
+                does != ReceiverDoes::Still
+                    && self.stamp <= 900
+                    && self.received(alloc, &seen, &does)
+            }
+            None => false,
+        }
+    }
+
+    /// A round of at most so many turns, the sender's first; a timeout where neither changed anything. How many were taken.
+    fn round(&mut self, alloc: Global, most: u32) -> u32 {
+        let mut turns = 0u32;
+        if most > 0 && self.sends(alloc) {
+            turns = 1;
+        }
+        if most > turns && self.receives(alloc) {
+            turns = turns.saturating_add(1);
+        }
+        if most > 0 && turns == 0 && self.sender.timeout() {
+            turns = 1;
+        }
+        turns
+    }
+
+    /// So many turns at most, round by round. How many were taken.
+    fn pump(&mut self, alloc: Global, most: u32) -> u32 {
         let mut turns = 0u32;
         for _ in 0..200 {
-            let before = turns;
-            if turns < most && self.sends(alloc)? {
-                turns += 1;
+            let taken = self.round(alloc, most.saturating_sub(turns));
+            if taken == 0 {
+                break;
             }
-            if turns < most && self.receives(alloc)? {
-                turns += 1;
-            }
-            if turns == before && (turns >= most || !self.sender.timeout()) {
-                return Ok(turns);
-            }
-            if turns == before {
-                turns += 1;
-            }
+            turns = turns.saturating_add(taken);
         }
-        Ok(turns)
+        turns
     }
 }
 
@@ -304,25 +356,55 @@ const CASES: [Case; 6] = [
     },
 ];
 
-#[test]
-fn messages_take_the_worked_turns_and_arrive_once(rt: HostRuntime) -> Result<(), Fail> {
-    for case in &CASES {
-        let mut pair = joined(rt.alloc(), case.out, case.back, case.puts, case.batch_size)?;
-        assert_eq!(rt; pair.pump(rt.alloc(), 100)?, case.turns);
-        assert_eq!(rt; pair.arrived, case.puts);
-        assert!(rt; pair.free == 0 && pair.receiver.unit == case.last);
-        assert_eq!(rt; u64::from(pair.sender.kept.last), case.puts);
-        assert_eq!(rt; pair.sender.state, SenderState::Running);
+/// Whether all of a case's messages have arrived once, and both ends know it.
+fn is_done(pair: &Pair, case: &Case) -> bool {
+    pair.arrived == case.puts
+        && pair.free == 0
+        && pair.receiver.unit == case.last
+        && u64::from(pair.sender.kept.last) == case.puts
+        && pair.sender.state == SenderState::Running
+}
+
+/// Whether a case takes its turns and is done then.
+fn holds(alloc: Global, case: &Case) -> bool {
+    match joined(alloc, case) {
+        Some(mut pair) => pair.pump(alloc, 100) == case.turns && is_done(&pair, case),
+        None => false,
     }
-    Ok(())
 }
 
 #[test]
-fn a_unit_is_in_doubt_until_its_acknowledgement(rt: HostRuntime) -> Result<(), Fail> {
-    let mut pair = joined(rt.alloc(), &[], &[], 1, 1)?;
-    assert_eq!(rt; pair.pump(rt.alloc(), 10)?, 10);
-    assert!(rt; pair.sender.kept.doubt.is_some() && pair.arrived == 1);
-    assert_eq!(rt; pair.pump(rt.alloc(), 100)?, 2);
-    assert!(rt; pair.sender.kept.doubt.is_none() && pair.arrived == 1);
-    Ok(())
+fn messages_take_the_worked_turns_and_arrive_once(rt: HostRuntime) {
+    for (row, case) in CASES.iter().enumerate() {
+        assert!(rt; holds(rt.alloc(), case), "case {row}");
+    }
+}
+
+/// How many turns are taken at most, how many there are, and whether the sender's unit is in doubt then.
+const DOUBTS: [(u32, u32, bool); 2] = [(10, 10, true), (100, 2, false)];
+
+/// Whether a pair takes these turns, and its message has arrived.
+fn stops(alloc: Global, pair: &mut Pair, most: u32, turns: u32, doubt: bool) -> bool {
+    pair.pump(alloc, most) == turns
+        && pair.sender.kept.doubt.is_some() == doubt
+        && pair.arrived == 1
+}
+
+/// Whether one message, with no faults, takes the turns above.
+fn doubts(alloc: Global, case: &Case) -> bool {
+    match joined(alloc, case) {
+        Some(mut pair) => {
+            let mut met = true;
+            for (most, turns, doubt) in &DOUBTS {
+                met = met && stops(alloc, &mut pair, *most, *turns, *doubt);
+            }
+            met
+        }
+        None => false,
+    }
+}
+
+#[test]
+fn a_unit_is_in_doubt_until_its_acknowledgement(rt: HostRuntime) {
+    assert!(rt; doubts(rt.alloc(), &CASES[0]));
 }

@@ -3,7 +3,6 @@
 use mq_frame::{Frame, FrameKind, Seen};
 use mq_sender::{Kept, Limits, Sender, SenderDoes, SenderOut, SenderState, StopCause};
 use mq_sync::{Doubt, Settle, Stock};
-use std::process::Abort;
 use std::test::*;
 
 const LIMITS: Limits = Limits {
@@ -18,12 +17,15 @@ fn started() -> Sender {
     sender
 }
 
-fn stock(free: u64) -> Stock {
-    Stock {
-        enabled: true,
-        expired: false,
-        free,
-    }
+/// What a sender sees.
+enum See {
+    Nothing,
+    /// STATUS: its session, the last unit's session and n, and the last number.
+    Status(u64, u64, u64, u32),
+    /// ACK of the session 1, with its n.
+    Ack(u64),
+    /// ERR of the unit 1.1, with its reason.
+    Err(u32),
 }
 
 fn frame(session: u64, kind: FrameKind) -> Seen {
@@ -34,141 +36,189 @@ fn frame(session: u64, kind: FrameKind) -> Seen {
     })
 }
 
-/// Takes a turn that is to do this.
-fn turn(rt: &impl Abort, sender: &mut Sender, seen: &Seen, free: u64, does: SenderDoes) {
-    if sender.kept.session < 9 && sender.begun < 9 {
-        assert_eq!(rt; sender.next(seen, &stock(free)), does);
-        sender.done(&does, &SenderOut::Done);
-    } else {
-        assert!(rt; false, "numbers are small");
+fn status(session: u64, unit_session: u64, unit_n: u64, last: u32) -> Seen {
+    let kind = FrameKind::Status {
+        unit_session,
+        unit_n,
+        last,
+    };
+    frame(session, kind)
+}
+
+fn seen_of(see: &See) -> Seen {
+    match *see {
+        See::Nothing => Seen::Nothing,
+        See::Status(session, unit_session, unit_n, last) => {
+            status(session, unit_session, unit_n, last)
+        }
+        See::Ack(n) => frame(1, FrameKind::Ack { n }),
+        See::Err(reason) => frame(1, FrameKind::Err { n: 1, reason }),
     }
 }
 
-/// A session and a batch of one message, up to the END: seven turns.
-fn sends_one(rt: &impl Abort, sender: &mut Sender, session: u64, status: Seen, bound: SenderDoes) {
-    let none = Seen::Nothing;
-    turn(rt, sender, &none, 1, SenderDoes::HardenSession(session));
-    turn(rt, sender, &none, 1, SenderDoes::PushBind);
-    turn(rt, sender, &status, 1, bound);
-    turn(rt, sender, &none, 1, SenderDoes::Begin { n: 1, count: 1 });
-    turn(rt, sender, &none, 0, SenderDoes::Prepare);
-    turn(rt, sender, &none, 0, SenderDoes::PushEnd);
+fn stock(free: u64) -> Stock {
+    Stock {
+        enabled: true,
+        expired: false,
+        free,
+    }
 }
 
-fn status(session: u64, unit_session: u64, unit_n: u64, last: u32) -> Seen {
-    frame(
-        session,
-        FrameKind::Status {
-            unit_session,
-            unit_n,
-            last,
-        },
-    )
+/// Takes a turn, if it is to do this and numbers are small.
+fn takes(sender: &mut Sender, seen: &Seen, free: u64, does: SenderDoes) -> bool {
+    if sender.kept.session >= 9 || sender.begun >= 9 {
+        return false;
+    }
+    if sender.next(seen, &stock(free)) != does {
+        return false;
+    }
+    sender.done(&does, &SenderOut::Done);
+    true
 }
+
+/// A turn: what is seen, how many messages are free, and what is done.
+type Turn = (See, u64, SenderDoes);
+
+/// The first turn, from 0, that is to do something else.
+fn first_wrong(sender: &mut Sender, turns: &[Turn]) -> Option<usize> {
+    for (place, (see, free, does)) in turns.iter().enumerate() {
+        if !takes(sender, &seen_of(see), *free, *does) {
+            return Some(place);
+        }
+    }
+    None
+}
+
+/// A bind that is answered for the first time.
+const NEW: SenderDoes = SenderDoes::Bound {
+    settle: None,
+    partner: 0,
+};
+
+/// A session and a batch of two messages, up to its commit.
+const TWO: [Turn; 10] = [
+    (See::Nothing, 3, SenderDoes::HardenSession(1)),
+    (See::Nothing, 3, SenderDoes::PushBind),
+    (See::Nothing, 3, SenderDoes::Still),
+    (See::Status(1, 0, 0, 0), 3, NEW),
+    (See::Nothing, 3, SenderDoes::Begin { n: 1, count: 2 }),
+    (See::Nothing, 1, SenderDoes::PushMsg(2)),
+    (See::Nothing, 1, SenderDoes::Prepare),
+    (See::Nothing, 1, SenderDoes::PushEnd),
+    (See::Ack(2), 1, SenderDoes::Ignore),
+    (See::Ack(1), 1, SenderDoes::Commit),
+];
+
+const NEXT: [Turn; 1] = [(See::Nothing, 1, SenderDoes::Begin { n: 2, count: 1 })];
 
 #[test]
 fn two_messages_go_in_one_batch(rt: HostRuntime) {
     let mut sender = started();
-    let none = Seen::Nothing;
-    let new = SenderDoes::Bound {
-        settle: None,
-        partner: 0,
-    };
-    turn(&rt, &mut sender, &none, 3, SenderDoes::HardenSession(1));
-    turn(&rt, &mut sender, &none, 3, SenderDoes::PushBind);
-    turn(&rt, &mut sender, &none, 3, SenderDoes::Still);
-    turn(&rt, &mut sender, &status(1, 0, 0, 0), 3, new);
-    turn(
-        &rt,
-        &mut sender,
-        &none,
-        3,
-        SenderDoes::Begin { n: 1, count: 2 },
-    );
-    turn(&rt, &mut sender, &none, 1, SenderDoes::PushMsg(2));
-    turn(&rt, &mut sender, &none, 1, SenderDoes::Prepare);
-    turn(&rt, &mut sender, &none, 1, SenderDoes::PushEnd);
-    let other = frame(1, FrameKind::Ack { n: 2 });
-    turn(&rt, &mut sender, &other, 1, SenderDoes::Ignore);
-    let ack = frame(1, FrameKind::Ack { n: 1 });
-    turn(&rt, &mut sender, &ack, 1, SenderDoes::Commit);
+    assert_eq!(rt; first_wrong(&mut sender, &TWO), None);
     assert_eq!(rt; sender.kept.last, 2);
-    turn(
-        &rt,
-        &mut sender,
-        &none,
-        1,
-        SenderDoes::Begin { n: 2, count: 1 },
-    );
+    assert_eq!(rt; first_wrong(&mut sender, &NEXT), None);
     assert_eq!(rt; sender.next_number(), 4);
 }
+
+/// A session and a batch of one message, up to the END.
+const ONE: [Turn; 6] = [
+    (See::Nothing, 1, SenderDoes::HardenSession(1)),
+    (See::Nothing, 1, SenderDoes::PushBind),
+    (See::Status(1, 0, 0, 0), 1, NEW),
+    (See::Nothing, 1, SenderDoes::Begin { n: 1, count: 1 }),
+    (See::Nothing, 0, SenderDoes::Prepare),
+    (See::Nothing, 0, SenderDoes::PushEnd),
+];
+
+/// A second session, whose STATUS names the unit.
+const MADE_GOOD: [Turn; 4] = [
+    (See::Nothing, 0, SenderDoes::HardenSession(2)),
+    (See::Nothing, 0, SenderDoes::PushBind),
+    (
+        See::Status(2, 1, 1, 1),
+        0,
+        SenderDoes::Bound {
+            settle: Some(Settle::Commit),
+            partner: 1,
+        },
+    ),
+    (See::Nothing, 0, SenderDoes::Still),
+];
 
 #[test]
 fn a_lost_answer_is_made_good_by_the_next_status(rt: HostRuntime) {
     let mut sender = started();
-    let new = SenderDoes::Bound {
-        settle: None,
-        partner: 0,
-    };
-    sends_one(&rt, &mut sender, 1, status(1, 0, 0, 0), new);
+    assert_eq!(rt; first_wrong(&mut sender, &ONE), None);
     assert!(rt; sender.timeout());
-    let none = Seen::Nothing;
-    turn(&rt, &mut sender, &none, 0, SenderDoes::HardenSession(2));
-    turn(&rt, &mut sender, &none, 0, SenderDoes::PushBind);
-    let settled = SenderDoes::Bound {
-        settle: Some(Settle::Commit),
-        partner: 1,
-    };
-    turn(&rt, &mut sender, &status(2, 1, 1, 1), 0, settled);
-    turn(&rt, &mut sender, &none, 0, SenderDoes::Still);
-    assert_eq!(rt; sender.kept.last, 1);
-    assert_eq!(rt; sender.tries, 0);
+    assert_eq!(rt; first_wrong(&mut sender, &MADE_GOOD), None);
+    assert!(rt; sender.kept.last == 1 && sender.tries == 0);
 }
+
+/// A second session, whose STATUS doesn't name the unit, and its batch anew.
+const ANEW: [Turn; 6] = [
+    (See::Nothing, 1, SenderDoes::HardenSession(2)),
+    (See::Nothing, 1, SenderDoes::PushBind),
+    (
+        See::Status(2, 0, 0, 0),
+        1,
+        SenderDoes::Bound {
+            settle: Some(Settle::Backout),
+            partner: 0,
+        },
+    ),
+    (See::Nothing, 1, SenderDoes::Begin { n: 1, count: 1 }),
+    (See::Nothing, 0, SenderDoes::Prepare),
+    (See::Nothing, 0, SenderDoes::PushEnd),
+];
 
 #[test]
 fn a_lost_end_is_backed_out_and_sent_anew(rt: HostRuntime) {
     let mut sender = started();
-    let new = SenderDoes::Bound {
-        settle: None,
-        partner: 0,
-    };
-    sends_one(&rt, &mut sender, 1, status(1, 0, 0, 0), new);
+    assert_eq!(rt; first_wrong(&mut sender, &ONE), None);
     let kept = sender.kept;
     sender.halt();
     sender.start(kept, LIMITS);
-    let settled = SenderDoes::Bound {
-        settle: Some(Settle::Backout),
-        partner: 0,
-    };
-    sends_one(&rt, &mut sender, 2, status(2, 0, 0, 0), settled);
+    assert_eq!(rt; first_wrong(&mut sender, &ANEW), None);
     assert!(rt; sender.unit().session == 2 && sender.unit().n == 1);
 }
 
+const REFUSED: [Turn; 1] = [(See::Err(2085), 0, SenderDoes::Backout(2085))];
+
 #[test]
-fn a_sender_stops_for_each_cause(rt: HostRuntime) {
-    let new = SenderDoes::Bound {
-        settle: None,
-        partner: 0,
-    };
+fn a_sender_stops_for_an_error_of_its_partner(rt: HostRuntime) {
     let mut sender = started();
-    sends_one(&rt, &mut sender, 1, status(1, 0, 0, 0), new);
-    let err = frame(1, FrameKind::Err { n: 1, reason: 2085 });
-    turn(&rt, &mut sender, &err, 0, SenderDoes::Backout(2085));
-    assert_eq!(rt; sender.state, SenderState::Stopped(StopCause::Reason(2085)));
+    assert_eq!(rt; first_wrong(&mut sender, &ONE), None);
+    assert_eq!(rt; first_wrong(&mut sender, &REFUSED), None);
+    assert!(rt; sender.state == SenderState::Stopped(StopCause::Reason(2085)));
+}
+
+/// A session whose STATUS has another number.
+const APART: [Turn; 3] = [
+    (See::Nothing, 0, SenderDoes::HardenSession(1)),
+    (See::Nothing, 0, SenderDoes::PushBind),
+    (
+        See::Status(1, 0, 0, 4),
+        0,
+        SenderDoes::Bound {
+            settle: None,
+            partner: 4,
+        },
+    ),
+];
+
+#[test]
+fn a_sender_stops_for_another_number(rt: HostRuntime) {
     let mut sender = started();
-    let none = Seen::Nothing;
-    turn(&rt, &mut sender, &none, 0, SenderDoes::HardenSession(1));
-    turn(&rt, &mut sender, &none, 0, SenderDoes::PushBind);
-    let apart = SenderDoes::Bound {
-        settle: None,
-        partner: 4,
-    };
-    turn(&rt, &mut sender, &status(1, 0, 0, 4), 0, apart);
+    assert_eq!(rt; first_wrong(&mut sender, &APART), None);
     let cause = StopCause::SequenceError { own: 0, partner: 4 };
-    assert_eq!(rt; sender.state, SenderState::Stopped(cause));
+    assert!(rt; sender.state == SenderState::Stopped(cause));
+}
+
+#[test]
+fn a_sender_stops_for_want_of_room(rt: HostRuntime) {
     let mut sender = started();
     sender.done(&SenderDoes::Prepare, &SenderOut::NoRoom);
-    assert_eq!(rt; sender.state, SenderState::Stopped(StopCause::Reason(2102)));
+    assert!(rt; sender.state == SenderState::Stopped(StopCause::Reason(2102)));
 }
 
 #[test]
@@ -182,44 +232,61 @@ fn a_sender_gives_up_when_all_tries_are_used(rt: HostRuntime) {
     assert_eq!(rt; sender.state, SenderState::Stopped(StopCause::NoAnswer));
 }
 
+/// The last number, whether it is forced, the session and the stamp of a BIND.
+fn is_bind(frame: &Frame, last: u32, force: bool, session: u64, stamp: u64) -> bool {
+    match &frame.kind {
+        FrameKind::Bind { last: l, force: f } => {
+            *l == last && *f == force && frame.session == session && frame.stamp == stamp
+        }
+        _ => false,
+    }
+}
+
 #[test]
-fn frames_say_what_is_sent(rt: HostRuntime) {
+fn a_bind_says_what_is_kept(rt: HostRuntime) {
     let mut sender = started();
     sender.kept.last = 7;
     sender.kept.force = true;
     sender.kept.session = 3;
-    let frame = sender.bind_frame(9);
-    assert!(rt;
-        matches!(
-            &frame.kind,
-            FrameKind::Bind {
-                last: 7,
-                force: true
-            }
-        )
-    );
-    assert!(rt; frame.session == 3 && frame.stamp == 9);
-    sender.done(&SenderDoes::Begin { n: 1, count: 2 }, &SenderOut::Done);
-    sender.done(&SenderDoes::PushMsg(2), &SenderOut::Done);
-    sender.done(&SenderDoes::Prepare, &SenderOut::Done);
-    let frame = sender.end_frame(10);
-    assert!(rt;
-        matches!(
-            &frame.kind,
-            FrameKind::End {
-                n: 1,
-                count: 2,
-                last: 9
-            }
-        )
-    );
+    assert!(rt; is_bind(&sender.bind_frame(9), 7, true, 3, 9));
+}
+
+/// The unit, its messages and its last number that an END says.
+fn is_end(frame: &Frame, n: u64, count: u32, last: u32) -> bool {
+    match &frame.kind {
+        FrameKind::End {
+            n: m,
+            count: c,
+            last: l,
+        } => *m == n && *c == count && *l == last,
+        _ => false,
+    }
+}
+
+/// A sender that kept 7 in the session 3 and has prepared a batch of two.
+fn prepared() -> Sender {
+    let mut sender = started();
+    sender.kept.last = 7;
+    sender.kept.session = 3;
+    for does in [
+        SenderDoes::Begin { n: 1, count: 2 },
+        SenderDoes::PushMsg(2),
+        SenderDoes::Prepare,
+    ] {
+        sender.done(&does, &SenderOut::Done);
+    }
+    sender
+}
+
+#[test]
+fn an_end_says_what_is_sent_and_a_stop_leaves_it_in_doubt(rt: HostRuntime) {
+    let mut sender = prepared();
+    assert!(rt; is_end(&sender.end_frame(10), 1, 2, 9));
     sender.stop();
-    assert_eq!(rt; sender.state, SenderState::Stopped(StopCause::Operator));
-    assert_eq!(rt;
-        sender.kept.doubt,
-        Some(Doubt {
-            unit: sender.unit(),
-            last: 9
-        })
-    );
+    assert!(rt; sender.state == SenderState::Stopped(StopCause::Operator));
+    let doubt = Doubt {
+        unit: sender.unit(),
+        last: 9,
+    };
+    assert!(rt; sender.kept.doubt == Some(doubt));
 }
