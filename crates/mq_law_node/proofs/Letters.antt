@@ -56,4 +56,5 @@ free_row q p x h k = record { row = x; ordinary = k.ordinary; found = found_one 
 
 -- so it may be moved
 pub can_move : (q : List ℕ) (p : Plain) (x : Row) (bare : Bool) → IsSound p → IsLetter q p x → CanMove q x.message.ident bare p
+unfolding free_row
 can_move q p x bare h k = record { free = free_row q p x h k; dead = λ z. k.dead }
