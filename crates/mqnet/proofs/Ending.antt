@@ -9,6 +9,7 @@ use Rattle.mq_law_commands.specs.Written.{IsWritten}
 use Rattle.mq_law_commands.proofs.Commanding.{texts_written}
 use Rattle.mq_law_scenario.proofs.Either.{text_found}
 use Rattle.mq_law_scenario.proofs.Kept.{text_kept}
+use Rattle.mq_nodes.specs.Texts.{AllFit}
 use Rattle.mq_nodes.proofs.TextLaws.{all_weaker}
 use Rattle.mq_sc_parse.specs.declared.command.Command.{Command}
 use Rattle.mq_sc_parse.specs.declared.command.Command.TheVariants as commands
