@@ -32,7 +32,7 @@ pub struct Limits {
 }
 
 /// Why a sender is stopped.
-#[derive(Clone, Copy, Debug, PartialEq, Eq)]
+#[derive(Clone, Copy, PartialEq, Eq)]
 pub enum StopCause {
     /// An operator's STOP.
     Operator,
@@ -45,7 +45,7 @@ pub enum StopCause {
 }
 
 /// Where a sender stands.
-#[derive(Clone, Copy, Debug, PartialEq, Eq)]
+#[derive(Clone, Copy, PartialEq, Eq)]
 pub enum SenderState {
     /// Not started since its manager started, or its manager has stopped.
     Inactive,

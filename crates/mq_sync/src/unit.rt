@@ -33,7 +33,7 @@ impl fmt::Display for Unit {
 }
 
 /// What becomes of a unit in doubt.
-#[derive(Clone, Copy, Debug, PartialEq, Eq)]
+#[derive(Clone, Copy, PartialEq, Eq)]
 pub enum Settle {
     Commit,
     Backout,
