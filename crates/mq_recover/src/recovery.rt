@@ -16,7 +16,7 @@ use mq_recover_read::log_record;
 use std::alloc::Global;
 
 /// Why a log tells no image.
-#[derive(Clone, Copy, Debug, PartialEq, Eq)]
+#[derive(Clone, Copy)]
 pub enum RecoverFault {
     /// The body behind this gate is no record of this manager, or doesn't apply to what stands in front of it; the
     /// gate's place is the number of bytes in front of it.
