@@ -1,10 +1,11 @@
 //! The image of the bodies of a log.
-ghost use Rattle.std.specs.Prelude.{◌≡◌, ◌+◌, ◌<◌, ℕ, Bool, true, false, List, IfOk, IfSome, length};
+ghost use Rattle.std.specs.Prelude.{◌≡◌, ◌+◌, ◌<◌, ◌^◌, ℕ, Bool, true, false, List, IfOk, IfSome, length};
 ghost use Rattle.mq_log.specs.Bodies.{frames, AllFit};
 ghost use Rattle.mq_log.specs.Walk.{Walks};
 ghost use Rattle.mq_calls.specs.State.{Given};
 ghost use Rattle.mq_spec_log.specs.Bodies.{begins, image, image_from, empty_image, is_started};
 ghost use Rattle.mq_recover.specs.declared.recovery.RecoverFault.TheVariants as faults;
+ghost use Rattle.mq_recover.specs.Recovering.{seen};
 ghost use Rattle.mq_recover.specs.Found.{start_in, given_as, Recovers, Told};
 
 use crate::recovering::Recovering;
@@ -55,7 +56,12 @@ fn is_started(record: &Option<LogRecord>) -> bool
     }
 }
 
-fn begins(alloc: Global, bodies: &Bodies<'_>) -> Result<bool, NoMemory>
+/// Whether a log of these bodies begins with a start. One without a body does.
+///
+/// # Errors
+///
+/// No memory.
+pub fn begins(alloc: Global, bodies: &Bodies<'_>) -> Result<bool, NoMemory>
     ensures { (all : List (List ℕ)) → AllFit all → bodies.now.framed.now ≡ frames all → IfOk result (λ yes. yes ≡ begins all) }
 {
     match step(bodies) {
@@ -67,18 +73,26 @@ fn begins(alloc: Global, bodies: &Bodies<'_>) -> Result<bool, NoMemory>
     }
 }
 
-fn walk(
+/// What bodies tell behind what those in front of them have told, whose bytes are so many. It reads just these bodies.
+///
+/// # Errors
+///
+/// The place of the first body that is no record or doesn't apply, counted from the beginning of the log. No memory.
+pub fn walk_on(
     alloc: Global,
     manager: u8,
     name: &QName,
     start: Start,
+    before: Recovering,
+    place: u64,
     bodies: &Bodies<'_>,
 ) -> Result<Recovering, RecoverFault>
-    ensures { (all : List (List ℕ)) → AllFit all → bodies.now.framed.now ≡ frames all → Told (image_from (given_as manager name.now) (start_in start) 0 all empty_image) result }
+    requires { place + length bodies.now.framed.now < 2 ^ 64 }
+    ensures { (all : List (List ℕ)) → AllFit all → bodies.now.framed.now ≡ frames all → Told (image_from (given_as manager name.now) (start_in start) place all (seen before)) result }
 {
-    let mut told = Recovering::new(alloc);
+    let mut told = before;
     let mut left = *bodies;
-    let mut place = 0;
+    let mut place = place;
     while let Some(split) = step(&left) {
         let Some(record) = log_record(alloc, split.body)? else {
             return Err(RecoverFault::BadRecord(place));
@@ -90,6 +104,19 @@ fn walk(
         left = split.rest;
     }
     Ok(told)
+}
+
+fn walk(
+    alloc: Global,
+    manager: u8,
+    name: &QName,
+    start: Start,
+    bodies: &Bodies<'_>,
+) -> Result<Recovering, RecoverFault>
+    ensures { (all : List (List ℕ)) → AllFit all → bodies.now.framed.now ≡ frames all → Told (image_from (given_as manager name.now) (start_in start) 0 all empty_image) result }
+{
+    let nothing = Recovering::new(alloc);
+    walk_on(alloc, manager, name, start, nothing, 0, bodies)
 }
 
 /// The image that the bodies of a log tell, of the manager with this number and name.

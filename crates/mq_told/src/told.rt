@@ -1,0 +1,70 @@
+//! What the log of a manager has told, kept with its bytes.
+ghost use Rattle.std.specs.Prelude.{◌≡◌, ℕ, List};
+ghost use Rattle.mq_log.specs.Bodies.{frames, AllFit};
+ghost use Rattle.mq_recover.specs.Found.{given_as};
+ghost use Rattle.mq_recover.specs.Recovering.{seen};
+ghost use Rattle.mq_told.specs.Fronts.{HasTold, Goes};
+
+use crate::front::{Front, behind, go_on, no_front};
+use mq_base::QName;
+use mq_recover::RecoverFault;
+use std::alloc::Global;
+use std::marker::Model;
+
+/// What the log of a manager has told, kept with its bytes: so that a later restart, which finds these bytes at the beginning of
+/// its log, reads the bodies behind them alone. Contracts see nothing of it.
+#[derive(Drop)]
+pub struct LogTold {
+    manager: u8,
+    name: QName,
+    front: Front,
+}
+
+impl Model for LogTold {
+    ghost use Rattle.mq_recover.specs.Recovering.{seen};
+    ghost use Rattle.mq_recover.specs.Found.{given_as};
+    ghost use Rattle.mq_told.specs.Fronts.{HasTold};
+
+    ghost Value = { Unit {0} };
+
+    ghost view = { λ t. tt };
+
+    ghost invariant = { λ t. HasTold (given_as t.manager t.name) t.front.framed.items (seen t.front.recovering) };
+}
+
+/// What the bodies of a log tell, read on from what its first ones told before, where its bytes begin with theirs.
+///
+/// # Errors
+///
+/// The place of the first body that is no record or doesn't apply. No memory.
+pub fn tell(
+    alloc: Global,
+    manager: u8,
+    name: &QName,
+    before: Option<LogTold>,
+    framed: &[u8],
+) -> Result<Front, RecoverFault>
+    ensures { (all : List (List ℕ)) → AllFit all → framed.now ≡ frames all → Goes (given_as manager name.now) all result }
+{
+    let Some(before) = before else {
+        return go_on(alloc, manager, name, no_front(alloc), framed);
+    };
+    if before.manager != manager || before.name != *name {
+        return go_on(alloc, manager, name, no_front(alloc), framed);
+    }
+    match behind(before.front.framed.as_slice(), framed) {
+        None => go_on(alloc, manager, name, no_front(alloc), framed),
+        Some(rest) => go_on(alloc, manager, name, before.front, rest),
+    }
+}
+
+/// Keeps what the bodies of a log told, with their bytes.
+pub fn keep(manager: u8, name: &QName, front: Front) -> LogTold
+    requires { HasTold (given_as manager name.now) front.framed.items (seen front.recovering) }
+{
+    LogTold {
+        manager,
+        name: *name,
+        front,
+    }
+}
