@@ -25,5 +25,5 @@ pub record HasTold (g : Given) (framed : List ℕ) (i : Image) : Type 0 where
 
 -- what a reader of these bodies has in the end, with their bytes
 abbrev pub Goes : Given → List (List ℕ) → Result Front RecoverFault → Type 0
-Goes g all (Ok front) = (image_from g Later 0 all empty_image ≡ Ok (seen front.recovering)) × (front.framed.items ≡ frames all)
+Goes g all (Ok front) = (image_from g Later 0 all empty_image ≡ Ok (seen front.recovering)) × (front.framed ≡ frames all)
 Goes g all (Err fault) = Told (image_from g Later 0 all empty_image) (Err fault)

@@ -1,12 +1,12 @@
 //! The first bodies of a log, with what they told.
-ghost use Rattle.std.specs.Prelude.{◌≡◌, ◌++◌, ℕ, List, IfSome};
+ghost use Rattle.std.specs.Prelude.{◌≡◌, ◌++◌, ℕ, List, IfOk, IfSome};
 ghost use Rattle.mq_log.specs.Bodies.{frames, AllFit};
 ghost use Rattle.mq_calls.specs.State.{Given};
 ghost use Rattle.mq_recover.specs.Recovering.{seen};
 ghost use Rattle.mq_recover.specs.Found.{given_as};
 ghost use Rattle.mq_told.specs.Fronts.{HasTold, Goes};
 
-use mq_base::{NoMemory, QName};
+use mq_base::{Items, NoMemory, QName};
 use mq_log::Bodies;
 use mq_recover::{RecoverFault, Recovering, Start, walk_on};
 use std::alloc::Global;
@@ -15,17 +15,17 @@ use std::alloc::Global;
 #[derive(Drop)]
 pub struct Front {
     /// Their bytes, one behind the other.
-    pub framed: Vec<u8>,
+    pub framed: Items<u8>,
     /// What they told.
     pub recovering: Recovering,
 }
 
 /// No body.
 pub fn no_front(alloc: Global) -> Front
-    ensures { (given : Given) → HasTold given result.framed.items (seen result.recovering) }
+    ensures { (given : Given) → HasTold given result.framed (seen result.recovering) }
 {
     Front {
-        framed: Vec::new(alloc),
+        framed: Items::new(alloc),
         recovering: Recovering::new(alloc),
     }
 }
@@ -41,6 +41,14 @@ pub fn behind<'a>(front: &[u8], framed: &'a [u8]) -> Option<&'a [u8]>
     if *first == *front { Some(rest) } else { None }
 }
 
+fn joined(framed: Items<u8>, rest: &[u8]) -> Result<Items<u8>, NoMemory>
+    ensures { IfOk result (λ all. all ≡ framed ++ rest.now) }
+{
+    let mut all = framed;
+    all.extend_from_slice(rest)?;
+    Ok(all)
+}
+
 /// A log whose first bodies have told something is read on, from the bytes behind them.
 ///
 /// # Errors
@@ -53,26 +61,27 @@ pub fn go_on(
     front: Front,
     rest: &[u8],
 ) -> Result<Front, RecoverFault>
-    requires { HasTold (given_as manager name.now) front.framed.items (seen front.recovering) }
-    ensures { (all : List (List ℕ)) → AllFit all → front.framed.items ++ rest.now ≡ frames all → Goes (given_as manager name.now) all result }
+    requires { HasTold (given_as manager name.now) front.framed (seen front.recovering) }
+    ensures { (all : List (List ℕ)) → AllFit all → front.framed ++ rest.now ≡ frames all → Goes (given_as manager name.now) all result }
 {
-    let place = front.framed.len() as u64;
+    let Front { framed, recovering } = front;
+    let place = framed.len() as u64;
     let bodies = Bodies { framed: rest };
-    let recovering = match walk_on(
+    let told = match walk_on(
         alloc,
         manager,
         name,
         Start::Later,
-        front.recovering,
+        recovering,
         place,
         &bodies,
     ) {
-        Ok(recovering) => recovering,
+        Ok(told) => told,
         Err(fault) => return Err(fault),
     };
-    let mut framed = front.framed;
-    if framed.extend_from_slice(rest).is_err() {
-        return Err(RecoverFault::NoMemory);
-    }
-    Ok(Front { framed, recovering })
+    let framed = joined(framed, rest)?;
+    Ok(Front {
+        framed,
+        recovering: told,
+    })
 }

@@ -29,7 +29,7 @@ impl Model for LogTold {
 
     ghost view = { λ t. tt };
 
-    ghost invariant = { λ t. HasTold (given_as t.manager t.name) t.front.framed.items (seen t.front.recovering) };
+    ghost invariant = { λ t. HasTold (given_as t.manager t.name) t.front.framed (seen t.front.recovering) };
 }
 
 /// What the bodies of a log tell, read on from what its first ones told before, where its bytes begin with theirs.
@@ -60,7 +60,7 @@ pub fn tell(
 
 /// Keeps what the bodies of a log told, with their bytes.
 pub fn keep(manager: u8, name: &QName, front: Front) -> LogTold
-    requires { HasTold (given_as manager name.now) front.framed.items (seen front.recovering) }
+    requires { HasTold (given_as manager name.now) front.framed (seen front.recovering) }
 {
     LogTold {
         manager,
