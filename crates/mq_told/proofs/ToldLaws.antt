@@ -12,7 +12,8 @@ use Rattle.mq_recover.specs.declared.recovery.RecoverFault.{RecoverFault}
 use Rattle.mq_recover.specs.Recovering.{seen}
 use Rattle.mq_recover.specs.declared.recovery.RecoverFault.TheVariants.{NoMemory}
 use Rattle.mq_recover.specs.Found.{Told}
-use Rattle.mq_told.specs.Fronts.{HasTold}
+use Rattle.mq_told.specs.declared.front.Front.{Front}
+use Rattle.mq_told.specs.Fronts.{AreBodies, HasTold, Goes}
 
 -- these bytes are bodies, with which all go on from another image
 pub record Left (g : Given) (start : Start) (all : List (List ℕ)) (place : ℕ) (i : Image) (framed : List ℕ) (further : ℕ) (j : Image) : Type 0 where
@@ -76,3 +77,12 @@ goes_front g framed rest i h all fits e place at result went =
     let left = left_behind g Later h.bodies all rest 0 empty_image i h.fits fits is h.told in
     let here : 0 + length (frames h.bodies) ≡ place = omega (arith, ap length h.framed_is, at) in
     subst (λ (r : Result Image ℕ). Told r result) (sym (left.same ∙ ap (λ (n : ℕ). image_from g Later n left.bodies i) here)) (went left.bodies left.fits left.framed_is)
+
+pub told_again : (r : Result Image ℕ) (told : Recovering) → r ≡ Ok (seen told) → Told r (Ok told)
+told_again r told is = subst (λ (x : Result Image ℕ). Told x (Ok told)) (sym is) refl
+
+-- what a reader of a log's bodies has in the end can be kept
+pub keeps : (g : Given) (framed : List ℕ) → AreBodies framed → (front : Front) → ((all : List (List ℕ)) → AllFit all → framed ≡ frames all → Goes g all (Ok front)) → HasTold g front.framed (seen front.recovering)
+keeps g framed b front goes =
+    let h = goes b.bodies b.fits b.framed_is in
+    record { bodies = b.bodies; fits = b.fits; framed_is = h.1; told = h.0 }

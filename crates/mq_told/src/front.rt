@@ -1,5 +1,5 @@
 //! The first bodies of a log, with what they told.
-ghost use Rattle.std.specs.Prelude.{◌≡◌, ◌++◌, ℕ, List, IfOk, IfSome};
+ghost use Rattle.std.specs.Prelude.{◌≡◌, ◌++◌, ℕ, List, [], IfOk, IfSome};
 ghost use Rattle.mq_log.specs.Bodies.{frames, AllFit};
 ghost use Rattle.mq_calls.specs.State.{Given};
 ghost use Rattle.mq_recover.specs.Recovering.{seen};
@@ -22,7 +22,8 @@ pub struct Front {
 
 /// No body.
 pub fn no_front(alloc: Global) -> Front
-    ensures { (given : Given) → HasTold given result.framed (seen result.recovering) }
+    ensures empty { result.framed ≡ [] }
+    ensures told { (given : Given) → HasTold given result.framed (seen result.recovering) }
 {
     Front {
         framed: Items::new(alloc),
@@ -65,7 +66,7 @@ pub fn go_on(
     ensures { (all : List (List ℕ)) → AllFit all → front.framed ++ rest.now ≡ frames all → Goes (given_as manager name.now) all result }
 {
     let Front { framed, recovering } = front;
-    let place = framed.len() as u64;
+    let place = framed.as_slice().len() as u64;
     let bodies = Bodies { framed: rest };
     let told = match walk_on(
         alloc,

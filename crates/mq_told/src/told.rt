@@ -1,5 +1,5 @@
 //! What the log of a manager has told, kept with its bytes.
-ghost use Rattle.std.specs.Prelude.{◌≡◌, ℕ, List};
+ghost use Rattle.std.specs.Prelude.{◌≡◌, ℕ, List, true};
 ghost use Rattle.mq_log.specs.Bodies.{frames, AllFit};
 ghost use Rattle.mq_recover.specs.Found.{given_as};
 ghost use Rattle.mq_recover.specs.Recovering.{seen};
@@ -32,6 +32,16 @@ impl Model for LogTold {
     ghost invariant = { λ t. HasTold (given_as t.manager t.name) t.front.framed (seen t.front.recovering) };
 }
 
+// Whether the records of one manager are the other's.
+fn is_same(manager: u8, name: &QName, other: u8, named: &QName) -> bool
+    ensures { result ≡ true → given_as manager name.now ≡ given_as other named.now }
+{
+    if manager != other {
+        return false;
+    }
+    *name == *named
+}
+
 /// What the bodies of a log tell, read on from what its first ones told before, where its bytes begin with theirs.
 ///
 /// # Errors
@@ -49,7 +59,7 @@ pub fn tell(
     let Some(before) = before else {
         return go_on(alloc, manager, name, no_front(alloc), framed);
     };
-    if before.manager != manager || before.name != *name {
+    if !is_same(before.manager, &before.name, manager, name) {
         return go_on(alloc, manager, name, no_front(alloc), framed);
     }
     match behind(before.front.framed.as_slice(), framed) {
