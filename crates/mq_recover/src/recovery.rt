@@ -6,7 +6,7 @@ ghost use Rattle.mq_calls.specs.State.{Given};
 ghost use Rattle.mq_spec_log.specs.Bodies.{begins, image, image_from, empty_image, is_started};
 ghost use Rattle.mq_recover.specs.declared.recovery.RecoverFault.TheVariants as faults;
 ghost use Rattle.mq_recover.specs.Recovering.{seen};
-ghost use Rattle.mq_recover.specs.Found.{start_in, given_as, Recovers, Told};
+ghost use Rattle.mq_recover.specs.Found.{start_in, given_as, walked, Recovers, Told};
 
 use crate::recovering::Recovering;
 use crate::start::Start;
@@ -73,24 +73,24 @@ pub fn begins(alloc: Global, bodies: &Bodies<'_>) -> Result<bool, NoMemory>
     }
 }
 
-/// What bodies tell behind what those in front of them have told, whose bytes are so many. It reads just these bodies.
+/// Bodies tell more behind what those in front of them have told, whose bytes are so many. It reads just these bodies.
 ///
 /// # Errors
 ///
-/// The place of the first body that is no record or doesn't apply, counted from the beginning of the log. No memory.
+/// The place of the first body that is no record or doesn't apply, counted from the beginning of the log. No memory. What was told
+/// is then of no more use.
 pub fn walk_on(
     alloc: Global,
     manager: u8,
     name: &QName,
     start: Start,
-    before: Recovering,
+    told: &mut Recovering,
     place: u64,
     bodies: &Bodies<'_>,
-) -> Result<Recovering, RecoverFault>
+) -> Result<(), RecoverFault>
     requires { place + length bodies.now.framed.now < 2 ^ 64 }
-    ensures { (all : List (List ℕ)) → AllFit all → bodies.now.framed.now ≡ frames all → Told (image_from (given_as manager name.now) (start_in start) place all (seen before)) result }
+    ensures { (all : List (List ℕ)) → AllFit all → bodies.now.framed.now ≡ frames all → Told (image_from (given_as manager name.now) (start_in start) place all (seen told.old)) (walked told.new result) }
 {
-    let mut told = before;
     let mut left = *bodies;
     let mut place = place;
     while let Some(split) = step(&left) {
@@ -103,7 +103,7 @@ pub fn walk_on(
         place += (left.framed.len() - split.rest.framed.len()) as u64;
         left = split.rest;
     }
-    Ok(told)
+    Ok(())
 }
 
 fn walk(
@@ -115,8 +115,11 @@ fn walk(
 ) -> Result<Recovering, RecoverFault>
     ensures { (all : List (List ℕ)) → AllFit all → bodies.now.framed.now ≡ frames all → Told (image_from (given_as manager name.now) (start_in start) 0 all empty_image) result }
 {
-    let nothing = Recovering::new(alloc);
-    walk_on(alloc, manager, name, start, nothing, 0, bodies)
+    let mut told = Recovering::new(alloc);
+    match walk_on(alloc, manager, name, start, &mut told, 0, bodies) {
+        Ok(()) => Ok(told),
+        Err(fault) => Err(fault),
+    }
 }
 
 /// The image that the bodies of a log tell, of the manager with this number and name.

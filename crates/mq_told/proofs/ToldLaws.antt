@@ -13,7 +13,7 @@ use Rattle.mq_recover.specs.Recovering.{seen}
 use Rattle.mq_recover.specs.declared.recovery.RecoverFault.TheVariants.{NoMemory}
 use Rattle.mq_recover.specs.Found.{Told}
 use Rattle.mq_told.specs.declared.front.Front.{Front}
-use Rattle.mq_told.specs.Fronts.{AreBodies, HasTold, Goes}
+use Rattle.mq_told.specs.Fronts.{AreBodies, HasTold, TellsAll}
 
 -- these bytes are bodies, with which all go on from another image
 pub record Left (g : Given) (start : Start) (all : List (List ℕ)) (place : ℕ) (i : Image) (framed : List ℕ) (further : ℕ) (j : Image) : Type 0 where
@@ -82,7 +82,7 @@ pub told_again : (r : Result Image ℕ) (told : Recovering) → r ≡ Ok (seen t
 told_again r told is = subst (λ (x : Result Image ℕ). Told x (Ok told)) (sym is) refl
 
 -- what a reader of a log's bodies has in the end can be kept
-pub keeps : (g : Given) (framed : List ℕ) → AreBodies framed → (front : Front) → ((all : List (List ℕ)) → AllFit all → framed ≡ frames all → Goes g all (Ok front)) → HasTold g front.framed (seen front.recovering)
+pub keeps : (g : Given) (framed : List ℕ) → AreBodies framed → (front : Front) → ((all : List (List ℕ)) → AllFit all → framed ≡ frames all → TellsAll g all front) → HasTold g front.framed (seen front.recovering)
 keeps g framed b front goes =
     let h = goes b.bodies b.fits b.framed_is in
     record { bodies = b.bodies; fits = b.fits; framed_is = h.1; told = h.0 }

@@ -23,7 +23,14 @@ pub record HasTold (g : Given) (framed : List ℕ) (i : Image) : Type 0 where
   pub framed_is : framed ≡ frames bodies
   pub told : image_from g Later 0 bodies empty_image ≡ Ok i
 
+-- so these bodies end, where they tell no image
+abbrev pub Fails : Given → List (List ℕ) → RecoverFault → Type 0
+Fails g all fault = Told (image_from g Later 0 all empty_image) (Err fault)
+
 -- what a reader of these bodies has in the end, with their bytes
-abbrev pub Goes : Given → List (List ℕ) → Result Front RecoverFault → Type 0
-Goes g all (Ok front) = (image_from g Later 0 all empty_image ≡ Ok (seen front.recovering)) × (front.framed ≡ frames all)
-Goes g all (Err fault) = Told (image_from g Later 0 all empty_image) (Err fault)
+abbrev pub TellsAll : Given → List (List ℕ) → Front → Type 0
+TellsAll g all front = (image_from g Later 0 all empty_image ≡ Ok (seen front.recovering)) × (front.framed ≡ frames all)
+
+abbrev pub Goes : {A : Type 0} → Given → List (List ℕ) → Front → Result A RecoverFault → Type 0
+Goes g all front (Ok done) = TellsAll g all front
+Goes g all front (Err fault) = Fails g all fault

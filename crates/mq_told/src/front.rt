@@ -1,5 +1,5 @@
 //! The first bodies of a log, with what they told.
-ghost use Rattle.std.specs.Prelude.{◌≡◌, ◌++◌, ℕ, List, [], IfOk, IfSome};
+ghost use Rattle.std.specs.Prelude.{◌≡◌, ◌++◌, ℕ, List, [], true, OnOk};
 ghost use Rattle.mq_log.specs.Bodies.{frames, AllFit};
 ghost use Rattle.mq_calls.specs.State.{Given};
 ghost use Rattle.mq_recover.specs.Recovering.{seen};
@@ -31,23 +31,31 @@ pub fn no_front(alloc: Global) -> Front
     }
 }
 
-/// The bytes behind those, where they begin with them.
-pub fn behind<'a>(front: &[u8], framed: &'a [u8]) -> Option<&'a [u8]>
-    ensures { IfSome result (λ rest. framed.now ≡ front.now ++ rest.now) }
+/// Whether bytes begin with those.
+pub fn begin_with(framed: &[u8], front: &[u8]) -> bool
+    ensures { result ≡ true → (rest : List ℕ) × (framed.now ≡ front.now ++ rest) }
 {
     if framed.len() < front.len() {
-        return None;
+        return false;
     }
-    let (first, rest) = framed.split_at(front.len());
-    if *first == *front { Some(rest) } else { None }
+    let (first, _) = framed.split_at(front.len());
+    *first == *front
 }
 
-fn joined(framed: Items<u8>, rest: &[u8]) -> Result<Items<u8>, NoMemory>
-    ensures { IfOk result (λ all. all ≡ framed ++ rest.now) }
+/// The bytes behind those that they begin with.
+pub fn behind<'a>(front: &[u8], framed: &'a [u8]) -> &'a [u8]
+    requires { (rest : List ℕ) × (framed.now ≡ front.now ++ rest) }
+    ensures { framed.now ≡ front.now ++ result.now }
 {
-    let mut all = framed;
-    all.extend_from_slice(rest)?;
-    Ok(all)
+    let (_, rest) = framed.split_at(front.len());
+    rest
+}
+
+fn append(framed: &mut Items<u8>, rest: &[u8]) -> Result<(), NoMemory>
+    ensures { OnOk result (framed.new ≡ framed.old ++ rest.now) }
+{
+    framed.extend_from_slice(rest)?;
+    Ok(())
 }
 
 /// A log whose first bodies have told something is read on, from the bytes behind them.
@@ -59,30 +67,28 @@ pub fn go_on(
     alloc: Global,
     manager: u8,
     name: &QName,
-    front: Front,
+    front: &mut Front,
     rest: &[u8],
-) -> Result<Front, RecoverFault>
-    requires { HasTold (given_as manager name.now) front.framed (seen front.recovering) }
-    ensures { (all : List (List ℕ)) → AllFit all → front.framed ++ rest.now ≡ frames all → Goes (given_as manager name.now) all result }
+) -> Result<(), RecoverFault>
+    requires { HasTold (given_as manager name.now) front.old.framed (seen front.old.recovering) }
+    ensures { (all : List (List ℕ)) → AllFit all → front.old.framed ++ rest.now ≡ frames all → Goes (given_as manager name.now) all front.new result }
 {
-    let Front { framed, recovering } = front;
-    let place = framed.as_slice().len() as u64;
+    let place = front.framed.as_slice().len() as u64;
     let bodies = Bodies { framed: rest };
-    let told = match walk_on(
+    match walk_on(
         alloc,
         manager,
         name,
         Start::Later,
-        recovering,
+        &mut front.recovering,
         place,
         &bodies,
     ) {
-        Ok(told) => told,
+        Ok(()) => {}
         Err(fault) => return Err(fault),
-    };
-    let framed = joined(framed, rest)?;
-    Ok(Front {
-        framed,
-        recovering: told,
-    })
+    }
+    match append(&mut front.framed, rest) {
+        Ok(()) => Ok(()),
+        Err(_) => Err(RecoverFault::NoMemory),
+    }
 }

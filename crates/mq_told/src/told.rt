@@ -1,11 +1,11 @@
 //! What the log of a manager has told, kept with its bytes.
-ghost use Rattle.std.specs.Prelude.{◌≡◌, ℕ, List, true};
+ghost use Rattle.std.specs.Prelude.{◌≡◌, ◌++◌, ℕ, List, true, MatchResult};
 ghost use Rattle.mq_log.specs.Bodies.{frames, AllFit};
 ghost use Rattle.mq_recover.specs.Found.{given_as};
 ghost use Rattle.mq_recover.specs.Recovering.{seen};
-ghost use Rattle.mq_told.specs.Fronts.{HasTold, Goes};
+ghost use Rattle.mq_told.specs.Fronts.{HasTold, Fails, TellsAll};
 
-use crate::front::{Front, behind, go_on, no_front};
+use crate::front::{Front, begin_with, behind, go_on, no_front};
 use mq_base::QName;
 use mq_recover::RecoverFault;
 use std::alloc::Global;
@@ -42,6 +42,29 @@ fn is_same(manager: u8, name: &QName, other: u8, named: &QName) -> bool
     *name == *named
 }
 
+// What its first bodies told before, where a log begins with their bytes, else none of them.
+fn front_of(
+    alloc: Global,
+    manager: u8,
+    name: &QName,
+    before: Option<LogTold>,
+    framed: &[u8],
+) -> Front
+    ensures told { HasTold (given_as manager name.now) result.framed (seen result.recovering) }
+    ensures front { (rest : List ℕ) × (framed.now ≡ result.framed ++ rest) }
+{
+    let Some(before) = before else {
+        return no_front(alloc);
+    };
+    if !is_same(before.manager, &before.name, manager, name) {
+        return no_front(alloc);
+    }
+    if !begin_with(framed, before.front.framed.as_slice()) {
+        return no_front(alloc);
+    }
+    before.front
+}
+
 /// What the bodies of a log tell, read on from what its first ones told before, where its bytes begin with theirs.
 ///
 /// # Errors
@@ -54,17 +77,13 @@ pub fn tell(
     before: Option<LogTold>,
     framed: &[u8],
 ) -> Result<Front, RecoverFault>
-    ensures { (all : List (List ℕ)) → AllFit all → framed.now ≡ frames all → Goes (given_as manager name.now) all result }
+    ensures { (all : List (List ℕ)) → AllFit all → framed.now ≡ frames all → MatchResult result (TellsAll (given_as manager name.now) all) (Fails (given_as manager name.now) all) }
 {
-    let Some(before) = before else {
-        return go_on(alloc, manager, name, no_front(alloc), framed);
-    };
-    if !is_same(before.manager, &before.name, manager, name) {
-        return go_on(alloc, manager, name, no_front(alloc), framed);
-    }
-    match behind(before.front.framed.as_slice(), framed) {
-        None => go_on(alloc, manager, name, no_front(alloc), framed),
-        Some(rest) => go_on(alloc, manager, name, before.front, rest),
+    let mut front = front_of(alloc, manager, name, before, framed);
+    let rest = behind(front.framed.as_slice(), framed);
+    match go_on(alloc, manager, name, &mut front, rest) {
+        Ok(()) => Ok(front),
+        Err(fault) => Err(fault),
     }
 }
 

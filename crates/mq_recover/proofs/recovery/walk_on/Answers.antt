@@ -14,7 +14,7 @@ loop-split-preserved c =
     let step = did (applies g (start_in c.args.start) c.in-Some-2.record (seen c.loop-split.told)) (doing c.in-Some-2.record (seen c.loop-split.told)) (seen c.follow.new.self) c.in_ok-follow.field-0 done c.in_ok-follow.ensures in
     let is = sym c.in_ok-record.ensures ∙ c.in-Some-2.is in
     record {
-      goes = λ all fits e. went_on g (start_in c.args.start) c.args.place (seen c.args.before) all c.loop-split.place c.loop-split.left.framed.now (seen c.loop-split.told) c.in-Some.split
+      goes = λ all fits e. went_on g (start_in c.args.start) c.args.place (seen c.args.told.now) all c.loop-split.place c.loop-split.left.framed.now (seen c.loop-split.told) c.in-Some.split
           (c.loop-split.invariant.goes all fits e) c.in-Some.ensures.walks (seen c.follow.new.self)
           (behind_on g (start_in c.args.start) (seen c.loop-split.told) (seen c.follow.new.self) (record_of c.in-Some.split.body.now) c.in-Some-2.record is step.0 step.1) _ refl;
       size = omega (arith, c.loop-split.invariant.size, c.in-Some.ensures.shorter);
