@@ -1,5 +1,5 @@
 //! The first bodies of a log, with what they told.
-ghost use Rattle.std.specs.Prelude.{◌≡◌, ◌++◌, ℕ, List, [], true, OnOk};
+ghost use Rattle.std.specs.Prelude.{◌≡◌, ◌++◌, ◌<◌, ◌^◌, ℕ, List, [], length, true, OnOk};
 ghost use Rattle.mq_log.specs.Bodies.{frames, AllFit};
 ghost use Rattle.mq_calls.specs.State.{Given};
 ghost use Rattle.mq_recover.specs.Recovering.{seen};
@@ -51,6 +51,13 @@ pub fn behind<'a>(front: &[u8], framed: &'a [u8]) -> &'a [u8]
     rest
 }
 
+fn size(framed: &[u8]) -> u64
+    ensures is { result ≡ length framed.now }
+    ensures low { result < 2 ^ 63 }
+{
+    framed.len() as u64
+}
+
 fn append(framed: &mut Items<u8>, rest: &[u8]) -> Result<(), NoMemory>
     ensures { OnOk result (framed.new ≡ framed.old ++ rest.now) }
 {
@@ -73,7 +80,7 @@ pub fn go_on(
     requires { HasTold (given_as manager name.now) front.old.framed (seen front.old.recovering) }
     ensures { (all : List (List ℕ)) → AllFit all → front.old.framed ++ rest.now ≡ frames all → Goes (given_as manager name.now) all front.new result }
 {
-    let place = front.framed.as_slice().len() as u64;
+    let place = size(front.framed.as_slice());
     let bodies = Bodies { framed: rest };
     match walk_on(
         alloc,
