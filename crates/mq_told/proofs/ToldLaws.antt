@@ -1,5 +1,11 @@
 -- What the front of a log tells: its other bodies go on behind it.
-use Rattle.std.proofs.Common.{◌≡◌, ℕ, ◌+◌, List, [], ◌∷◌, ◌++◌, length, Option, Some, None, Result, Ok, Err, refl, sym, ap, ◌∙◌, subst, arith, append_assoc, length-append}
+use Rattle.std.proofs.Common.{◌≡◌, ℕ, ◌+◌, ◌≤◌, Bool, true, false, drop, List, [], ◌∷◌, ◌++◌, length, Option, Some, None, Result, Ok, Err, refl, sym, ap, ◌∙◌, subst, arith, append_assoc, length-append}
+use Rattle.std.specs.Prelude.{◌==◌, ◌&&◌, nat_eq}
+use Rattle.std.specs.List.{starts_with}
+use Rattle.std.specs.Str.{bytes_eq}
+use Rattle.std.proofs.lemmas.Bool.{eqb-true}
+use Rattle.std.proofs.lemmas.Bool.Decides.{Decides-eqb}
+use Rattle.std.proofs.lemmas.Slice.Eq.{bytes_eq-Decides, starts_is}
 use Rattle.mq_log.specs.Bodies.{frame, frames, AllFit}
 use Rattle.mq_log.proofs.Logs.{frame_is_one}
 use Rattle.mq_calls.specs.State.{Given}
@@ -11,9 +17,9 @@ use Rattle.mq_recover.specs.declared.recovering.Recovering.{Recovering}
 use Rattle.mq_recover.specs.declared.recovery.RecoverFault.{RecoverFault}
 use Rattle.mq_recover.specs.Recovering.{seen}
 use Rattle.mq_recover.specs.declared.recovery.RecoverFault.TheVariants.{NoMemory}
-use Rattle.mq_recover.specs.Found.{Told}
+use Rattle.mq_recover.specs.Found.{given_as, Told}
 use Rattle.mq_told.specs.declared.front.Front.{Front}
-use Rattle.mq_told.specs.Fronts.{AreBodies, HasTold, TellsAll}
+use Rattle.mq_told.specs.Fronts.{AreBodies, HasTold, IsFront, TellsAll}
 
 -- these bytes are bodies, with which all go on from another image
 pub record Left (g : Given) (start : Start) (all : List (List ℕ)) (place : ℕ) (i : Image) (framed : List ℕ) (further : ℕ) (j : Image) : Type 0 where
@@ -86,3 +92,37 @@ pub keeps : (g : Given) (framed : List ℕ) → AreBodies framed → (front : Fr
 keeps g framed b front goes =
     let h = goes b.bodies b.fits b.framed_is in
     record { bodies = b.bodies; fits = b.fits; framed_is = h.1; told = h.0 }
+
+both : (a b : Bool) → (a && b) ≡ true → (a ≡ true) × (b ≡ true)
+both true b e = (refl, e)
+both false b e = absurd (cc e)
+
+pub same_given : (m n : ℕ) (x y : List ℕ) → (m == n && bytes_eq x y) ≡ true → given_as m x ≡ given_as n y
+same_given m n x y e =
+    let h = both (m == n) (bytes_eq x y) e in
+    ap (λ (k : ℕ). given_as k x) (eqb-true m n h.0) ∙ ap (λ (z : List ℕ). given_as n z) ((bytes_eq-Decides x y).0 h.1)
+
+pub begins_with : (framed front : List ℕ) → starts_with nat_eq framed front ≡ true → framed ≡ front ++ drop (length front) framed
+begins_with framed front e = (starts_is Decides-eqb framed front (starts_with nat_eq framed front) refl).0 e
+
+-- nothing was told, and any bytes are behind it
+pub nothing_told : (g : Given) (framed : List ℕ) (front : Front) → front.framed ≡ [] → seen front.recovering ≡ empty_image → IsFront g framed front
+nothing_told g framed front none blank = record {
+  told = record { bodies = []; fits = tt; framed_is = none; told = ap (λ (i : Image). Ok i) (sym blank) };
+  is = ap (λ (x : List ℕ). x ++ drop (length x) framed) (sym none);
+}
+
+-- what was kept is of this manager, and the bytes begin with its own
+pub kept_front : (m n : ℕ) (x y : List ℕ) (framed at : List ℕ) (front : Front) → HasTold (given_as m x) front.framed (seen front.recovering) → (m == n && bytes_eq x y) ≡ true
+    → at ≡ front.framed → starts_with nat_eq framed at ≡ true → IsFront (given_as n y) framed front
+kept_front m n x y framed at front told same here begun = record {
+  told = subst (λ (g : Given). HasTold g front.framed (seen front.recovering)) (same_given m n x y same) told;
+  is = subst (λ (z : List ℕ). framed ≡ z ++ drop (length z) framed) here (begins_with framed at begun);
+}
+
+-- what is behind them makes them whole
+pub front_low : (framed front at : List ℕ) → framed ≡ front ++ drop (length front) framed → at ≡ front → length at ≤ length framed
+front_low framed front at is here = omega (arith, ap length here, ap length is, length-append front (drop (length front) framed))
+
+pub front_whole : (framed front at rest : List ℕ) → framed ≡ front ++ drop (length front) framed → at ≡ front → rest ≡ drop (length at) framed → front ++ rest ≡ framed
+front_whole framed front at rest is here r = ap (λ (x : List ℕ). front ++ x) (r ∙ ap (λ (y : List ℕ). drop (length y) framed) here) ∙ sym is

@@ -1,5 +1,5 @@
 -- The first bodies of a log, with what they told.
-use Rattle.std.specs.Prelude.{◌≡◌, ℕ, List, Result, Ok, Err}
+use Rattle.std.specs.Prelude.{◌≡◌, ◌++◌, ℕ, List, length, drop, Result, Ok, Err}
 use Rattle.mq_log.specs.Bodies.{frames, AllFit}
 use Rattle.mq_calls.specs.State.{Given}
 use Rattle.mq_calls.specs.declared.image.Image.{Image}
@@ -22,6 +22,11 @@ pub record HasTold (g : Given) (framed : List ℕ) (i : Image) : Type 0 where
   pub fits : AllFit bodies
   pub framed_is : framed ≡ frames bodies
   pub told : image_from g Later 0 bodies empty_image ≡ Ok i
+
+-- these bytes begin with bodies that have told this
+pub record IsFront (g : Given) (framed : List ℕ) (front : Front) : Type 0 where
+  pub told : HasTold g front.framed (seen front.recovering)
+  pub is : framed ≡ front.framed ++ drop (length front.framed) framed
 
 -- so these bodies end, where they tell no image
 abbrev pub Fails : Given → List (List ℕ) → RecoverFault → Type 0

@@ -1,10 +1,11 @@
 //! The first bodies of a log, with what they told.
-ghost use Rattle.std.specs.Prelude.{◌≡◌, ◌++◌, ◌<◌, ◌^◌, ℕ, List, [], length, true, OnOk};
+ghost use Rattle.std.specs.Prelude.{◌≡◌, ◌++◌, ◌<◌, ◌≤◌, ◌^◌, nat_eq, ℕ, List, length, drop, OnOk};
+ghost use Rattle.std.specs.List.{starts_with};
 ghost use Rattle.mq_log.specs.Bodies.{frames, AllFit};
 ghost use Rattle.mq_calls.specs.State.{Given};
 ghost use Rattle.mq_recover.specs.Recovering.{seen};
 ghost use Rattle.mq_recover.specs.Found.{given_as};
-ghost use Rattle.mq_told.specs.Fronts.{HasTold, Goes};
+ghost use Rattle.mq_told.specs.Fronts.{HasTold, IsFront, Goes};
 
 use mq_base::{Items, NoMemory, QName};
 use mq_log::Bodies;
@@ -22,30 +23,24 @@ pub struct Front {
 
 /// No body.
 pub fn no_front(alloc: Global) -> Front
-    ensures empty { result.framed ≡ [] }
-    ensures told { (given : Given) → HasTold given result.framed (seen result.recovering) }
+    ensures { (given : Given) (framed : List ℕ) → IsFront given framed result }
 {
-    Front {
-        framed: Items::new(alloc),
-        recovering: Recovering::new(alloc),
-    }
+    let framed = Items::new(alloc);
+    let recovering = Recovering::new(alloc);
+    Front { framed, recovering }
 }
 
 /// Whether bytes begin with those.
 pub fn begin_with(framed: &[u8], front: &[u8]) -> bool
-    ensures { result ≡ true → (rest : List ℕ) × (framed.now ≡ front.now ++ rest) }
+    ensures { result ≡ starts_with nat_eq framed.now front.now }
 {
-    if framed.len() < front.len() {
-        return false;
-    }
-    let (first, _) = framed.split_at(front.len());
-    *first == *front
+    framed.starts_with(front)
 }
 
 /// The bytes behind those that they begin with.
 pub fn behind<'a>(front: &[u8], framed: &'a [u8]) -> &'a [u8]
-    requires { (rest : List ℕ) × (framed.now ≡ front.now ++ rest) }
-    ensures { framed.now ≡ front.now ++ result.now }
+    requires { length front.now ≤ length framed.now }
+    ensures { result.now ≡ drop (length front.now) framed.now }
 {
     let (_, rest) = framed.split_at(front.len());
     rest

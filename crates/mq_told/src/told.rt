@@ -1,9 +1,10 @@
 //! What the log of a manager has told, kept with its bytes.
-ghost use Rattle.std.specs.Prelude.{◌≡◌, ◌++◌, ℕ, List, true, MatchResult};
+ghost use Rattle.std.specs.Prelude.{◌≡◌, ◌==◌, ◌&&◌, ℕ, List, IfSome, MatchResult};
+ghost use Rattle.std.specs.Str.{bytes_eq};
 ghost use Rattle.mq_log.specs.Bodies.{frames, AllFit};
 ghost use Rattle.mq_recover.specs.Found.{given_as};
 ghost use Rattle.mq_recover.specs.Recovering.{seen};
-ghost use Rattle.mq_told.specs.Fronts.{HasTold, Fails, TellsAll};
+ghost use Rattle.mq_told.specs.Fronts.{HasTold, IsFront, Fails, TellsAll};
 
 use crate::front::{Front, begin_with, behind, go_on, no_front};
 use mq_base::QName;
@@ -32,14 +33,30 @@ impl Model for LogTold {
     ghost invariant = { λ t. HasTold (given_as t.manager t.name) t.front.framed (seen t.front.recovering) };
 }
 
+fn is_name(a: &QName, b: &QName) -> bool
+    ensures { result ≡ bytes_eq a.now b.now }
+{
+    *a == *b
+}
+
 // Whether the records of one manager are the other's.
 fn is_same(manager: u8, name: &QName, other: u8, named: &QName) -> bool
-    ensures { result ≡ true → given_as manager name.now ≡ given_as other named.now }
+    ensures { result ≡ (manager == other && bytes_eq name.now named.now) }
 {
-    if manager != other {
-        return false;
+    manager == other && is_name(name, named)
+}
+
+// What was kept, where it is of this manager and a log begins with its bytes.
+fn taken(manager: u8, name: &QName, before: LogTold, framed: &[u8]) -> Option<Front>
+    ensures { IfSome result (IsFront (given_as manager name.now) framed.now) }
+{
+    if !is_same(before.manager, &before.name, manager, name) {
+        return None;
     }
-    *name == *named
+    if !begin_with(framed, before.front.framed.as_slice()) {
+        return None;
+    }
+    Some(before.front)
 }
 
 // What its first bodies told before, where a log begins with their bytes, else none of them.
@@ -50,19 +67,15 @@ fn front_of(
     before: Option<LogTold>,
     framed: &[u8],
 ) -> Front
-    ensures told { HasTold (given_as manager name.now) result.framed (seen result.recovering) }
-    ensures front { (rest : List ℕ) × (framed.now ≡ result.framed ++ rest) }
+    ensures { IsFront (given_as manager name.now) framed.now result }
 {
     let Some(before) = before else {
         return no_front(alloc);
     };
-    if !is_same(before.manager, &before.name, manager, name) {
-        return no_front(alloc);
+    match taken(manager, name, before, framed) {
+        None => no_front(alloc),
+        Some(front) => front,
     }
-    if !begin_with(framed, before.front.framed.as_slice()) {
-        return no_front(alloc);
-    }
-    before.front
 }
 
 /// What the bodies of a log tell, read on from what its first ones told before, where its bytes begin with theirs.
