@@ -17,6 +17,10 @@ const PATIENCE: u32 = 1_000_000;
 /// After how many turns in a row that change nothing a sender gets a timeout (this project's choice).
 const TIMEOUT_AFTER: u32 = 1_000;
 
+/// How often an end of a channel whose turn changed nothing lets other threads go first, so that its partner's thread is given a
+/// processor before its timeouts are used up, also on a busy machine (this project's choice).
+const YIELDS: u32 = 100;
+
 /// What a worker does at its node.
 #[derive(Clone, Copy, Debug, PartialEq, Eq)]
 pub enum Work {
@@ -77,6 +81,13 @@ fn run_script<P: PhaseName, D: Disk, R: Wait, G: Gate>(
     }
 }
 
+/// Lets other threads go first.
+fn let_others_go() {
+    for _ in 0..YIELDS {
+        thread::yield_now();
+    }
+}
+
 /// The timeout of a sender that was still for long.
 fn time_out<P: PhaseName, D: Disk, R: Wait>(
     rt: &R,
@@ -116,7 +127,7 @@ fn run_end<P: PhaseName, D: Disk, R: Wait>(
             Ok(Turn::Still) => {
                 still += 1;
                 time_out(rt, lock, sends, still);
-                thread::yield_now();
+                let_others_go();
             }
             Err(NoMemory) => break,
         }
