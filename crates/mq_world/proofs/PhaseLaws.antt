@@ -1,5 +1,5 @@
 -- A phase in threads: what it asks of a network holds, and behind it the network is one again, which tells of it.
-use Rattle.std.proofs.Common.{◌≡◌, ℕ, ◌+◌, ◌<◌, ◌≤◌, nat_le, Bool, true, false, List, [], ◌∷◌, ◌++◌, length, refl, sym, ap, subst, ◌∙◌, arith}
+use Rattle.std.proofs.Common.{◌≡◌, ℕ, ◌+◌, ◌<◌, ◌≤◌, nat_le, Bool, true, false, List, [], ◌∷◌, ◌++◌, length, refl, sym, ap, subst, ◌∙◌, inl, arith}
 use Rattle.std.specs.Prelude.{map, Option, Some, None, Result, Ok, Err, option_map, slice_get}
 use Rattle.std.proofs.lemmas.Bool.Decides.{nat_tests}
 use Rattle.std.proofs.lemmas.Option.{slice_get_within}
@@ -234,7 +234,7 @@ module _ (w : NetState) (ks : List ℕ) (r : Result (Unit {0}) Stop) (ns : List 
   spent m e = ap is_spent (done_there ns m e.0 e.1) ∙ spent_there e.0 (kept.nodes m e.0 e.1).keeps ∙ e.2
 
   told : (q : Result (Unit {0}) Stop) → PhaseEnds q ns → PhaseTold ks q (course_in w) (course_in v)
-  told (Ok done) e = (phased, ready e, rests)
+  told (Ok done) e = (phased, ready e, record { others = λ k none. rests k; each = λ k p here part. inl (rests k) })
   told (Err stops.NoMemory) e = phased
   told (Err (stops.Spent m)) e = (phased, spent m e)
 
