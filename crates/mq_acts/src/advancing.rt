@@ -16,7 +16,7 @@ use mq_history::{Actor, Entry, ScriptLine, ScriptPart};
 use mq_progress::Progress;
 
 /// What a script did.
-#[derive(Clone, Copy, Debug, PartialEq, Eq)]
+#[derive(Clone, Copy)]
 pub enum Advanced {
     /// Its next line.
     Done,

@@ -127,7 +127,10 @@ fn discard_forced<D: Disk>(
     };
     match make_record_room(&mut core.parts, 79) {
         Ok(()) => {}
-        Err(NoMemory) => return Err(AgentStop::NoMemory),
+        Err(NoMemory) => {
+            drop(write);
+            return Err(AgentStop::NoMemory);
+        }
     }
     match force_remove(&mut core.parts, queue, ident) {
         Ok(()) => {}
@@ -137,6 +140,7 @@ fn discard_forced<D: Disk>(
             return Err(agent_stop(stop));
         }
     }
+    drop(write);
     remove_row(&mut core.parts, &mut core.effects, queue, ident);
     Ok(())
 }

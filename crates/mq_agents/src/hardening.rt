@@ -53,11 +53,14 @@ pub fn go_down<D: Disk>(parts: &mut Parts<D>, write: StoppedWrite)
     ensures { parts.new ≡ downed write parts.old }
 {
     parts.queues.drop_volatile();
-    parts.mode = Mode::Down {
-        write: Some(write),
-        starts: 0,
-        read: None,
-    };
+    drop(std::mem::replace(
+        &mut parts.mode,
+        Mode::Down {
+            write: Some(write),
+            starts: 0,
+            read: None,
+        },
+    ));
 }
 
 /// What stopped a write; none where there was no memory.

@@ -61,7 +61,12 @@ fn disk_in<D: Disk>(parts: Parts<D>) -> D
 fn disk_of<D: Disk>(manager: Manager<D>) -> D
     ensures { D.faults result ≡ manager.faults }
 {
-    let Manager { core, read: _ } = manager;
+    let Manager {
+        core,
+        read: _,
+        told,
+    } = manager;
+    drop(told);
     let Core {
         parts,
         effects,

@@ -3,7 +3,7 @@ use mq_disk::Disk;
 use mq_manager::Manager;
 
 /// Why a network was not begun.
-#[derive(Clone, Copy, Debug, PartialEq, Eq)]
+#[derive(Clone, Copy)]
 pub enum NetFault {
     /// The shelf or a disk failed: its count of faults rose.
     DiskFault,

@@ -4,7 +4,7 @@ ghost use Rattle.mq_cable.specs.Faults.{names, fault_of};
 
 /// A scripted fault of one direction of a cable, on its k-th offered frame, from 1 (this project's choice). The
 /// first number is k.
-#[derive(Clone, Copy, Debug, PartialEq, Eq)]
+#[derive(Clone, Copy)]
 pub enum Fault {
     /// It is not pushed.
     Drop(u32),

@@ -15,7 +15,7 @@ use std::alloc::Global;
 use std::marker::Model;
 
 /// Why a frame wasn't offered. All is as before, and the frame isn't counted.
-#[derive(Clone, Copy, Debug, PartialEq, Eq)]
+#[derive(Clone, Copy)]
 pub enum OfferFault {
     /// The frame is to be pushed now, and the direction was full.
     Full,

@@ -7,7 +7,7 @@ use mq_sync::{End, Unit};
 
 /// Why a call of a channel end or of the handler was not done. `Disk` and `Cut` take the manager
 /// down, `NoMemory` changes nothing.
-#[derive(Clone, Copy, Debug, PartialEq, Eq)]
+#[derive(Clone, Copy)]
 pub enum AgentStop {
     Disk,
     Cut,
@@ -15,7 +15,7 @@ pub enum AgentStop {
 }
 
 /// Why a sender cannot open its transmission queue.
-#[derive(Clone, Copy, Debug, PartialEq, Eq)]
+#[derive(Clone, Copy)]
 pub enum SeizeFault {
     /// XMITQ names no local queue of USAGE(XMITQ).
     BadQueue,
@@ -25,7 +25,7 @@ pub enum SeizeFault {
 }
 
 /// Why a batch was not prepared.
-#[derive(Clone, Copy, Debug, PartialEq, Eq)]
+#[derive(Clone, Copy)]
 pub enum PrepareFault {
     /// The log lacks the room.
     NoRoom,
@@ -33,7 +33,7 @@ pub enum PrepareFault {
 }
 
 /// Why messages were not placed.
-#[derive(Clone, Copy, Debug, PartialEq, Eq)]
+#[derive(Clone, Copy)]
 pub enum PlaceFault {
     Refused(Reason),
     Stop(AgentStop),

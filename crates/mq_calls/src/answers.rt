@@ -4,7 +4,7 @@ use mq_codes::Reason;
 use mq_message::{Bytes, Ident, Md, Want};
 
 /// A connection handle; manager 0 stands for none.
-#[derive(Clone, Copy, Debug, PartialEq, Eq)]
+#[derive(Clone, Copy)]
 pub struct Hconn {
     pub manager: u8,
     pub incarnation: u64,
@@ -12,13 +12,13 @@ pub struct Hconn {
 }
 
 /// An object handle of a connection; 0 is none.
-#[derive(Clone, Copy, Debug, PartialEq, Eq)]
+#[derive(Clone, Copy)]
 pub struct Hobj {
     pub number: u64,
 }
 
 /// Who connects: PutApplName and UserIdentifier of its messages.
-#[derive(Clone, Copy, Debug, PartialEq, Eq)]
+#[derive(Clone, Copy)]
 pub struct Appl {
     pub name: [u8; 28],
     pub user: [u8; 12],
@@ -33,7 +33,7 @@ pub enum Answer<T> {
 }
 
 /// Whether an MQOPEN asks for input, and whether alone.
-#[derive(Clone, Copy, Debug, PartialEq, Eq)]
+#[derive(Clone, Copy)]
 pub enum Input {
     No,
     Shared,
@@ -41,7 +41,7 @@ pub enum Input {
 }
 
 /// The options of an MQOPEN.
-#[derive(Clone, Copy, Debug, PartialEq, Eq)]
+#[derive(Clone, Copy)]
 pub struct Open {
     pub input: Input,
     pub browse: bool,
@@ -56,7 +56,7 @@ pub struct Sent {
 }
 
 /// Which message a get takes: the next, or that under the cursor; or it browses.
-#[derive(Clone, Copy, Debug, PartialEq, Eq)]
+#[derive(Clone, Copy)]
 pub enum Take {
     Next,
     UnderCursor,

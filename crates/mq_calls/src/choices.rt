@@ -4,7 +4,7 @@ use crate::commands::RestartFault;
 use mq_disk::Stop;
 
 /// What a manager's state and a call leave open. Only these come from outside.
-#[derive(Clone, Copy, Debug, PartialEq, Eq)]
+#[derive(Clone, Copy)]
 pub enum Choice {
     /// Memory was there, and each forced write was made.
     Runs,
@@ -16,7 +16,7 @@ pub enum Choice {
 }
 
 /// How a restart ends.
-#[derive(Clone, Copy, Debug, PartialEq, Eq)]
+#[derive(Clone, Copy)]
 pub enum Return {
     /// It comes up: the stopped write was found or not, and so many Started records of restarts
     /// that were stopped themselves.

@@ -11,7 +11,7 @@ pub struct Shown {
 }
 
 /// Why a command on objects is refused, in the order in which the causes are tried.
-#[derive(Clone, Copy, Debug, PartialEq, Eq)]
+#[derive(Clone, Copy)]
 pub enum ScRefusal {
     /// The manager is down.
     Down,
@@ -26,7 +26,7 @@ pub enum ScRefusal {
 }
 
 /// Why a restart is refused.
-#[derive(Clone, Copy, Debug, PartialEq, Eq)]
+#[derive(Clone, Copy)]
 pub enum RestartFault {
     Up,
     Disk,
@@ -37,7 +37,7 @@ pub enum RestartFault {
 }
 
 /// Why a first start is refused.
-#[derive(Clone, Copy, Debug, PartialEq, Eq)]
+#[derive(Clone, Copy)]
 pub enum BeginFault {
     Disk,
     /// The bytes are no log of this manager; the place of the gate at fault.
@@ -46,14 +46,14 @@ pub enum BeginFault {
 }
 
 /// Whether a restart found the body of the write that was stopped.
-#[derive(Clone, Copy, Debug, PartialEq, Eq)]
+#[derive(Clone, Copy)]
 pub struct Kept {
     pub kept: bool,
 }
 
 /// How an inner call ends without its answer: it is refused, it finds no memory, or its forced
 /// write was stopped.
-#[derive(Clone, Copy, Debug, PartialEq, Eq)]
+#[derive(Clone, Copy)]
 pub enum Halt<F> {
     Refused(F),
     NoMemory,

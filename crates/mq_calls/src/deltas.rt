@@ -7,7 +7,7 @@ use mq_message::{Dest, Holder, Ident};
 use mq_sync::Unit;
 
 /// Why a row went.
-#[derive(Clone, Copy, Debug, PartialEq, Eq)]
+#[derive(Clone, Copy)]
 pub enum Why {
     /// A get took it.
     Got,

@@ -93,7 +93,7 @@ pub struct Arrival {
 }
 
 /// What the first restart that read the log found there.
-#[derive(Clone, Copy, Debug, PartialEq, Eq)]
+#[derive(Clone, Copy)]
 pub struct ReadLog {
     /// Whether the log holds the stopped write.
     pub kept: bool,

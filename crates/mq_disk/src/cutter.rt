@@ -9,7 +9,7 @@ use crate::Disk;
 use mq_base::Failed;
 
 /// Why a call behind a cut wasn't done.
-#[derive(Clone, Copy, Debug, PartialEq, Eq)]
+#[derive(Clone, Copy)]
 pub enum Stop {
     /// The cut was armed for this call, or for one before it with no restart since.
     Cut,

@@ -7,7 +7,7 @@ use crate::Disk;
 use mq_base::QName;
 
 /// A manager has two disks for its log. Side A is the first.
-#[derive(Clone, Copy, Debug, PartialEq, Eq)]
+#[derive(Clone, Copy, PartialEq, Eq)]
 pub enum Side {
     /// The first, in the file `NAME.a.qlog`.
     A,
@@ -16,7 +16,7 @@ pub enum Side {
 }
 
 /// Why a disk wasn't taken.
-#[derive(Clone, Copy, Debug, PartialEq, Eq)]
+#[derive(Clone, Copy, Debug)]
 pub enum TakeFault {
     /// There is no such disk, or it can't be opened. The shelf's count of faults rose.
     Failed,

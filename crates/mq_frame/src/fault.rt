@@ -6,7 +6,7 @@ ghost use Rattle.mq_frame.specs.declared.fault.Stop.TheVariants as stops;
 use std::alloc::AllocError;
 
 /// Why a piece of a frame can't be read from the front of some bytes.
-#[derive(Clone, Copy, Debug, PartialEq, Eq)]
+#[derive(Clone, Copy)]
 pub enum Miss {
     /// They end before it does.
     Short,
@@ -15,7 +15,7 @@ pub enum Miss {
 }
 
 /// Why a frame wasn't made of some bytes.
-#[derive(Clone, Copy, Debug, PartialEq, Eq)]
+#[derive(Clone, Copy)]
 pub enum Stop {
     NoMemory,
     /// The bytes are none, or not yet.

@@ -82,7 +82,7 @@ pub enum Seen {
 pub type Frames = Items<Frame>;
 
 /// Why a decoder gave no frames.
-#[derive(Clone, Copy, Debug, PartialEq, Eq)]
+#[derive(Clone, Copy)]
 pub enum FrameFault {
     /// No continuation of the bytes is a list of frames. The number of bytes, since the last reset,
     /// before the first one after which this is so.

@@ -1,7 +1,7 @@
 //! What the length of a frame says of it.
 
 /// What the length of a frame says of it: its kind, and of a message how long the body is.
-#[derive(Clone, Copy, Debug, PartialEq, Eq)]
+#[derive(Clone, Copy)]
 pub enum FrameShape {
     Bind,
     Status,

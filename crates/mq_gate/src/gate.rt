@@ -1,7 +1,7 @@
 //! The gate that a script's worker passes before each try of a call.
 
 /// A script's next line: places in the scenario, from 0.
-#[derive(Clone, Copy, Debug, PartialEq, Eq)]
+#[derive(Clone, Copy)]
 pub struct Point {
     /// The script's place in the scenario.
     pub script: u16,
@@ -17,7 +17,7 @@ pub trait Gate {
 }
 
 /// A gate that holds nobody.
-#[derive(Clone, Copy, Debug)]
+#[derive(Clone, Copy)]
 pub struct OpenGate;
 
 impl Gate for OpenGate {

@@ -21,7 +21,7 @@ use mq_own::Handler;
 use std::alloc::Global;
 
 /// How a call of the manager ended.
-#[derive(Clone, Copy, Debug, PartialEq, Eq)]
+#[derive(Clone, Copy)]
 pub enum Ended {
     Done,
     Refused,

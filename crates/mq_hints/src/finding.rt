@@ -12,7 +12,7 @@ use mq_scn_script::{get_options, put_options};
 use std::alloc::Global;
 
 /// What is looked for.
-#[derive(Clone, Copy, Debug, PartialEq, Eq)]
+#[derive(Clone, Copy, PartialEq, Eq)]
 pub enum Flaw {
     /// A word that isn't written as what may stand at its place.
     Form,

@@ -1,7 +1,7 @@
 //! How each line of a scenario is written (docs/SCENARIO.md).
 
 /// What may stand at a place of a line.
-#[derive(Clone, Copy, Debug, PartialEq, Eq)]
+#[derive(Clone, Copy, PartialEq, Eq)]
 pub enum Slot {
     /// Nothing more.
     End,

@@ -3,7 +3,7 @@ use mq_calls::{RestartFault, ScRefusal, Shown};
 use mq_sc_parse::Command;
 
 /// Why a command on a channel's end is refused; `Down` is tried first, then as each command says.
-#[derive(Clone, Copy, Debug, PartialEq, Eq)]
+#[derive(Clone, Copy)]
 pub enum OpRefusal {
     /// The manager is down.
     Down,

@@ -10,7 +10,7 @@ use mq_message::{Bytes, Md};
 
 /// Who acts. Numbers are places in the scenario: of the script, of the cable for a channel's end, of
 /// the rules table for a handler, of the monitor.
-#[derive(Clone, Copy, Debug, PartialEq, Eq)]
+#[derive(Clone, Copy)]
 pub enum Actor {
     Script(u16),
     /// The sender end of a cable.

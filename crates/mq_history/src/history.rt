@@ -4,7 +4,7 @@ use mq_base::{Items, QName};
 use mq_calls::Image;
 
 /// A step's end.
-#[derive(Clone, Copy, Debug, PartialEq, Eq)]
+#[derive(Clone, Copy)]
 pub struct Mark {
     /// The number of entries then.
     pub entries: u64,

@@ -24,7 +24,7 @@ pub struct Key {
 }
 
 /// Where a key stands first and last.
-#[derive(Clone, Copy, PartialEq, Eq)]
+#[derive(Clone, Copy)]
 pub struct Ends {
     pub first: usize,
     pub last: usize,

@@ -30,22 +30,11 @@ use Rattle.mq_spec_node.specs.Receivers.{place_deed, receiver_deed_by}
 use Rattle.mq_spec_network.specs.Conflict.{deeds, deeds_in}
 use Rattle.mq_spec_network.specs.Story.{Line, Mem}
 use Rattle.mq_law_channel.specs.Facts.{Letter}
-use Rattle.mq_law_manager.proofs.Lists.{bool_case}
+use Rattle.mq_law_manager.proofs.Lists.{bool_case, mem_before, mem_behind}
 use Rattle.mq_law_node.specs.Ends.{Where, place_out, receiver_of, receiver_out, stamped}
 use Rattle.mq_law_node.proofs.ReceiverTurns.{placed_by}
 use Rattle.mq_law_turns.specs.Agreed.{TellsCommit}
 use Rattle.mq_law_deeds.specs.Deeds.{each_delta}
-
--- Members
-
-behind : {A : Type 0} (x : A) (xs ys : List A) → Mem x ys → Mem x (xs ++ ys)
-behind x [] ys n = n
-behind x (y ∷ xs) ys n = inr (behind x xs ys n)
-
-before : {A : Type 0} (x : A) (xs ys : List A) → Mem x xs → Mem x (xs ++ ys)
-before x [] ys n = absurd n
-before x (y ∷ xs) ys (inl e) = inl e
-before x (y ∷ xs) ys (inr n) = inr (before x xs ys n)
 
 told_in : (m : ℕ) (d : Did) (ds : List Did) → Mem d ds → Mem (record { manager = m; did = d }) (deeds_in m ds)
 told_in m d [] n = absurd n
@@ -54,9 +43,9 @@ told_in m d (x ∷ ds) (inr n) = inr (told_in m d ds n)
 
 pub in_prefix : (p : List Line) (x : Line) (d : Did) → Mem x p → Mem d x.entry.effect.delta → Mem (record { manager = x.manager; did = d }) (deeds p)
 in_prefix [] x d n k = absurd n
-in_prefix (y ∷ p) x d (inl e) k = before (record { manager = x.manager; did = d }) (deeds_in y.manager y.entry.effect.delta) (deeds p)
+in_prefix (y ∷ p) x d (inl e) k = mem_before (record { manager = x.manager; did = d }) (deeds_in y.manager y.entry.effect.delta) (deeds p)
     (subst (λ (z : Line). Mem (record { manager = x.manager; did = d }) (deeds_in z.manager z.entry.effect.delta)) e (told_in x.manager d x.entry.effect.delta k))
-in_prefix (y ∷ p) x d (inr n) k = behind (record { manager = x.manager; did = d }) (deeds_in y.manager y.entry.effect.delta) (deeds p) (in_prefix p x d n k)
+in_prefix (y ∷ p) x d (inr n) k = mem_behind (record { manager = x.manager; did = d }) (deeds_in y.manager y.entry.effect.delta) (deeds p) (in_prefix p x d n k)
 
 -- A receiver's commit
 
@@ -70,7 +59,7 @@ places_told w e unit seen last t (Ok l) n same = bool_case (is_full (need (recei
     (λ z. (
       t,
       subst (λ (c : List ℕ). Mem (record { manager = t; did = did.Received c unit }) (deeds_in t ((l.delta ++ did.Received e.channel unit ∷ []) ++ []))) (sym same)
-          (told_in t (did.Received e.channel unit) ((l.delta ++ did.Received e.channel unit ∷ []) ++ []) (before (did.Received e.channel unit) (l.delta ++ did.Received e.channel unit ∷ []) [] (behind (did.Received e.channel unit) l.delta (did.Received e.channel unit ∷ []) (inl refl)))),
+          (told_in t (did.Received e.channel unit) ((l.delta ++ did.Received e.channel unit ∷ []) ++ []) (mem_before (did.Received e.channel unit) (l.delta ++ did.Received e.channel unit ∷ []) [] (mem_behind (did.Received e.channel unit) l.delta (did.Received e.channel unit ∷ []) (inl refl)))),
     ))
 
 pub commits_told : (w : Where) (stamp t : ℕ) (seen : Seen) (n : Node) (m : Receiver) (kept : List Letter) (d : ReceiverDoes)
@@ -92,4 +81,4 @@ settles_told e settle d n stopped =
     let told : List Did = map (settle_did (is_commit settle)) (held_rows (holders.Batch e.channel) n.manager) in
     let x : Did = did.Hardened e.channel (notes.Resolved d.unit (is_commit settle) true) in
     subst (λ (b : Bool). Mem x (delta_of (refused_or (if b then Some reasons.Running else None) n.own (operated (parts_of (harden e.channel (notes.Resolved d.unit (is_commit settle) true) n.manager)) n.own)).parts)) (sym stopped)
-    (before x (told ++ x ∷ []) [] (behind x told (x ∷ []) (inl refl)))
+    (mem_before x (told ++ x ∷ []) [] (mem_behind x told (x ∷ []) (inl refl)))

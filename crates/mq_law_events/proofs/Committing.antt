@@ -25,7 +25,7 @@ use Rattle.mq_spec_network.specs.Standing.{row_told}
 use Rattle.mq_spec_network.specs.Story.{Mem}
 use Rattle.mq_law_rows.specs.World.{World, Book, Ghost, Owner, Unborn, At, HeldBy, InBatch, Forced, InUnit, InHand, Gone, IsHeldBy, IsElsewhere, Inv, claim, items_told, got_idents}
 use Rattle.mq_law_rows.specs.Kinds.{among, puts_of, bury_all}
-use Rattle.mq_law_rows.proofs.Lists.{bool_case, is_false, true_false, eqb_self, eqb_yes, ident_yes, keep_same, keep_all}
+use Rattle.mq_law_rows.proofs.Lists.{bool_case, is_false, true_false, eqb_self, eqb_yes, ident_yes, keep_same, keep_all, and_right}
 use Rattle.mq_law_rows.proofs.Owners.{row_where}
 use Rattle.mq_law_manager.proofs.SeenLaws.{mapped_one}
 use Rattle.mq_law_events.specs.Local.{Side, Sheet, local, page, with_owner, Leads, side_of, sheet_of}
@@ -44,11 +44,7 @@ got_one [] d x e = absurd (true_false (sym e))
 got_one (Put q message ∷ items) d x e = got_one items d x e
 got_one (Take q i lasting ∷ items) d x e =
     bool_case (bytes_eq d q && same_ident x.message.ident i) (λ t. (bytes_eq d q && same_ident x.message.ident i) ≡ t → (t || any_taken items d x) ≡ true → Mem x.message.ident (i ∷ got_idents items))
-    (λ z w k. inl (ident_yes x.message.ident i (right (bytes_eq d q) _ w))) (λ z w k. inr (got_one items d x k)) refl e
-  where
-    right : (a b : Bool) → (a && b) ≡ true → b ≡ true
-    right true b e = e
-    right false b e = absurd cc
+    (λ z w k. inl (ident_yes x.message.ident i (and_right (bytes_eq d q) _ w))) (λ z w k. inr (got_one items d x k)) refl e
 
 held_claims : (m k : ℕ) (d : List ℕ) (by_ : Option Holder) → IsHeldBy m k (claim m d by_) → held_by (holders.Unit k) by_ ≡ true
 held_claims m k d None n = absurd n

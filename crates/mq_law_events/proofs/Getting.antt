@@ -36,7 +36,7 @@ use Rattle.mq_spec_network.specs.Ledger.{Ledger, take_all_gone, take_gone, got_i
 use Rattle.mq_spec_network.specs.Story.{Mem}
 use Rattle.mq_law_rows.specs.World.{ident_of}
 use Rattle.mq_law_rows.specs.Kinds.{among}
-use Rattle.mq_law_rows.proofs.Lists.{bool_case, is_false, mem_kept, mem_keep}
+use Rattle.mq_law_rows.proofs.Lists.{bool_case, is_false, mem_kept, mem_keep, and_right}
 use Rattle.mq_law_manager.specs.Facts.{Differ}
 use Rattle.mq_law_manager.proofs.Lists.{one_row}
 use Rattle.mq_law_manager.proofs.Steps.{free_is}
@@ -120,11 +120,7 @@ still_there q (x ∷ xs) p y n ne =
     let r : Option LogRecord = removal_record q (persistent_rows (x ∷ xs)) in
     subst (λ rows. Mem y rows) (sym (rows_after (Leave (Among q (idents_of (x ∷ xs)))) (logged r p) q tt))
     (mem_kept _ y (stored q (logged r p)).rows (subst (λ rows. Mem y rows) (sym (rows_logged r p q)) n)
-    (ap not (is_false (bytes_eq q q && among (idents_of (x ∷ xs)) y.message.ident) (λ e. let k = among_rows y.message.ident (x ∷ xs) (second (bytes_eq q q) _ e) in ne k.0 k.1 k.2))))
-  where
-    second : (a b : Bool) → (a && b) ≡ true → b ≡ true
-    second true b e = e
-    second false b e = absurd cc
+    (ap not (is_false (bytes_eq q q && among (idents_of (x ∷ xs)) y.message.ident) (λ e. let k = among_rows y.message.ident (x ∷ xs) (and_right (bytes_eq q q) _ e) in ne k.0 k.1 k.2))))
 
 left_connections : (q : List ℕ) (xs : List Row) (p : Plain) → (do_all (expired_parts q xs) p).connections ≡ p.connections
 left_connections q [] p = refl

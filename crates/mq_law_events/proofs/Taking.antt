@@ -25,7 +25,7 @@ use Rattle.mq_spec_network.specs.Ledger.{Ledger, places_at, is_placed_at, take, 
 use Rattle.mq_spec_network.specs.Story.{Mem}
 use Rattle.mq_law_rows.specs.World.{ident_of}
 use Rattle.mq_law_rows.specs.Kinds.{among}
-use Rattle.mq_law_rows.proofs.Lists.{bool_case, is_false, true_false, eqb_self, ident_yes, name_yes, keep_same, keep_all, mem_kept}
+use Rattle.mq_law_rows.proofs.Lists.{bool_case, is_false, true_false, eqb_self, ident_yes, name_yes, keep_same, keep_all, mem_kept, and_right}
 use Rattle.mq_law_rows.proofs.Receiving.{mem_any}
 use Rattle.mq_law_seen.proofs.Bridges.{takes_from}
 use Rattle.mq_law_seen.proofs.Receipts.{rows_placed}
@@ -147,7 +147,7 @@ many_go m q why (x ∷ xs) v l taken each once =
     (λ z. record { rows = λ d. sym (taken_rows m i d l) z; gone = k.gone; got = sym (taken_got (is_placed_at i (places_at m l)) m i l) z }) in
     let rest = many_go m q why xs v1 k taken
     (λ y n. let a = each y (inr n) in
-    (mem_kept (λ h. not (bytes_eq q q && same_ident h.message.ident i)) y (v.rows q) a.0 (ap not (is_false (bytes_eq q q && same_ident y.message.ident i) (λ z. once.0 y n (sym (ident_yes y.message.ident i (second (bytes_eq q q) _ z)))))), a.1))
+    (mem_kept (λ h. not (bytes_eq q q && same_ident h.message.ident i)) y (v.rows q) a.0 (ap not (is_false (bytes_eq q q && same_ident y.message.ident i) (λ z. once.0 y n (sym (ident_yes y.message.ident i (and_right (bytes_eq q q) _ z)))))), a.1))
     once.1 in
     let same : ledgers.take_all_gone m (removed_all why q (x ∷ xs)) l ≡ take_all_gone m (removed_all why q xs) k = ap (λ t. take_all_gone m (removed_all why q xs) (ledgers.when t (take m i) l)) taken in
     leads_to m v _ _ (sheet_of m l) _ _ (behind m v v1 _ (sheet_of m l) (sheet_of m k) _ first rest)
@@ -158,10 +158,6 @@ many_go m q why (x ∷ xs) v l taken each once =
       given = v.given;
     })
     (ap (sheet_of m) (sym same))
-  where
-    second : (a b : Bool) → (a && b) ≡ true → b ≡ true
-    second true b e = e
-    second false b e = absurd cc
 
 -- all of them, told
 all_told : (m : ℕ) (p : Plain) (why : Why) (q : List ℕ) (xs : List Row) (l : Ledger) → IsTold m p l → IsTold m p (take_all_gone m (removed_all why q xs) l)

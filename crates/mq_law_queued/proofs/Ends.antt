@@ -61,6 +61,7 @@ use Rattle.mq_sync.specs.declared.unit.Unit.{Unit as Luw}
 use Rattle.mq_calls.specs.Sizes.{need}
 use Rattle.mq_spec_manager.specs.Words.{idents_of}
 use Rattle.mq_law_manager.proofs.Named.{batch_set}
+use Rattle.mq_law_manager.proofs.Removals.{mem_filter}
 use Rattle.mq_law_channel.proofs.Told.{by_lines}
 use Rattle.std.proofs.lemmas.Bool.{and_parts, true≢false}
 use Rattle.mq_law_queued.specs.Queued.{AreQueued, HaveSome, IsKindSome, IsQueued, parts_bare, parts_calm, parts_calm_for, is_calm, is_calm_for}
@@ -260,15 +261,10 @@ some_is : {A : Type 0} (a b : A) → Some a ≡ Some b → a ≡ b
 some_is a b e = cc
 
 -- of rows that stand once it lists each once
-filter_mem : (test : Row → Bool) (rows : List Row) (x : Row) → Mem x (filter test rows) → Mem x rows
-filter_mem test [] x m = m
-filter_mem test (r ∷ rs) x m = bool_case (test r) (λ b. Mem x (if b then r ∷ filter test rs else filter test rs) → Mem x (r ∷ rs))
-    (λ z k. elim k [ inl e ↦ inl e | inr j ↦ inr (filter_mem test rs x j) ]) (λ z k. inr (filter_mem test rs x k)) m
-
 filter_differ : (test : Row → Bool) (rows : List Row) → Differ ident_of rows → Differ ident_of (filter test rows)
 filter_differ test [] h = tt
 filter_differ test (r ∷ rs) h = bool_case (test r) (λ b. Differ ident_of (if b then r ∷ filter test rs else filter test rs))
-    (λ z. (λ y m. h.0 y (filter_mem test rs y m), filter_differ test rs h.1)) (λ z. filter_differ test rs h.1)
+    (λ z. (λ y m. h.0 y (mem_filter y test rs m).0, filter_differ test rs h.1)) (λ z. filter_differ test rs h.1)
 
 take_in : (k : ℕ) (rows : List Row) (x : Row) → Mem x (take k rows) → Mem x rows
 take_in zero rows x m = absurd m

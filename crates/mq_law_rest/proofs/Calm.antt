@@ -21,6 +21,7 @@ use Rattle.mq_spec_network.specs.Standing.{managers_from, opening_managers}
 use Rattle.mq_spec_network.specs.Story.{IsStory, Line, entries_at, entries_or, part}
 use Rattle.mq_spec_network.specs.Tasks.Slot.{Sends}
 use Rattle.mq_spec_network.specs.Tasks.Task.{Pump}
+use Rattle.mq_law_manager.proofs.Lists.{mem_append, mem_before, mem_behind}
 use Rattle.mq_nodes.specs.Carried.{entries_until, history_until, until}
 use Rattle.mq_law_node.proofs.Named.{bool_case, nat_self, nat_yes}
 use Rattle.mq_law_ran.proofs.Lawfuls.{rise}
@@ -34,24 +35,10 @@ use Rattle.mq_law_rest.proofs.Woven.{HasStory, has_story}
 abbrev Among : {A : Type 0} → List A → List A → Type 0
 Among xs ys = (x : _) → Mem x xs → Mem x ys
 
-pub mem_first : {A : Type 0} (x : A) (xs ys : List A) → Mem x xs → Mem x (xs ++ ys)
-mem_first x [] ys m = absurd m
-mem_first x (y ∷ xs) ys (inl e) = inl e
-mem_first x (y ∷ xs) ys (inr m) = inr (mem_first x xs ys m)
-
-mem_behind : {A : Type 0} (x : A) (xs ys : List A) → Mem x ys → Mem x (xs ++ ys)
-mem_behind x [] ys m = m
-mem_behind x (y ∷ xs) ys m = inr (mem_behind x xs ys m)
-
-mem_either : {A : Type 0} (x : A) (xs ys : List A) → Mem x (xs ++ ys) → Mem x xs ⊎ Mem x ys
-mem_either x [] ys m = inr m
-mem_either x (y ∷ xs) ys (inl e) = inl (inl e)
-mem_either x (y ∷ xs) ys (inr m) = elim (mem_either x xs ys m) [ inl k ↦ inl (inr k) | inr k ↦ inr k ]
-
 -- what was done in a line
 deed_there : (d : Deed) (x : Line) (p : List Line) → Mem x p → Mem d (deeds_in x.manager x.entry.effect.delta) → Mem d (deeds p)
 deed_there d x [] m h = absurd m
-deed_there d x (y ∷ p) (inl e) h = mem_first d (deeds_in y.manager y.entry.effect.delta) (deeds p) (subst (λ (z : Line). Mem d (deeds_in z.manager z.entry.effect.delta)) e h)
+deed_there d x (y ∷ p) (inl e) h = mem_before d (deeds_in y.manager y.entry.effect.delta) (deeds p) (subst (λ (z : Line). Mem d (deeds_in z.manager z.entry.effect.delta)) e h)
 deed_there d x (y ∷ p) (inr m) h = mem_behind d (deeds_in y.manager y.entry.effect.delta) (deeds p) (deed_there d x p m h)
 
 record LineOf (d : Deed) (p : List Line) : Type 0 where
@@ -61,7 +48,7 @@ record LineOf (d : Deed) (p : List Line) : Type 0 where
 
 line_of : (d : Deed) (p : List Line) → Mem d (deeds p) → LineOf d p
 line_of d [] m = absurd m
-line_of d (x ∷ p) m = elim (mem_either d (deeds_in x.manager x.entry.effect.delta) (deeds p) m) [
+line_of d (x ∷ p) m = elim (mem_append d (deeds_in x.manager x.entry.effect.delta) (deeds p) m) [
   | inl k ↦ record { line = x; there = inl refl; does = k }
   | inr k ↦ let r : LineOf d p = line_of d p k in record { line = r.line; there = inr r.there; does = r.does }
 ]
@@ -176,7 +163,7 @@ no_more s hs p q h peace =
     let ps : List Plain = opening_managers s hs in
     let among : Among (deeds p) (deeds q) = deeds_among p q h in
     ap (λ (ds : List Deed). first_conflict s ps ds ds) (deeds_both p q) ∙ each_none s ps (deeds p ++ deeds q) (deeds p ++ deeds q) (λ d m.
-    conflict_more s ps (deeds p) (deeds q) d.manager d.did among ∙ none_each s ps (deeds q) (deeds q) peace d (elim (mem_either d (deeds p) (deeds q) m) [ inl k ↦ among d k | inr k ↦ k ]))
+    conflict_more s ps (deeds p) (deeds q) d.manager d.did among ∙ none_each s ps (deeds q) (deeds q) peace d (elim (mem_append d (deeds p) (deeds q) m) [ inl k ↦ among d k | inr k ↦ k ]))
 
 -- THE STORY
 pub record IsCalm (s : Scenario) (hs : List History) : Type 0 where
@@ -218,7 +205,7 @@ peaceful_before s hs i n st h = record {
   all = λ x m.
       let g : Grew st.before st.after = goes_grew st.before (Pump n Sends 0 false ∷ []) st.goes in
       h.all x (subst (λ (es : List Entry). Mem x.entry es) (sym (g.has x.manager) ∙ sym (entries_place s hs (suc i) st.after st.next x.manager))
-      (mem_first x.entry (st.before.done x.manager) (g.more x.manager) (subst (λ (es : List Entry). Mem x.entry es) (entries_place s hs i st.before st.place x.manager) m)));
+      (mem_before x.entry (st.before.done x.manager) (g.more x.manager) (subst (λ (es : List Entry). Mem x.entry es) (entries_place s hs i st.before st.place x.manager) m)));
   peace = conflicts_until s hs i h.lines ∙ sym (conflicts_until s hs (suc i) h.lines) ∙ h.peace;
 }
 

@@ -1,5 +1,5 @@
 -- What a PUMP asks of the network behind it, and of the one before it, is what a run has.
-use Rattle.std.proofs.Common.{ℕ, zero, suc, ◌≡◌, ◌≤◌, ◌<◌, Bool, true, List, [], ◌∷◌, ◌++◌, length, map, refl, ap, sym, subst, ◌∙◌, inl, inr}
+use Rattle.std.proofs.Common.{ℕ, zero, suc, ◌≡◌, ◌≤◌, ◌<◌, Bool, true, List, [], ◌∷◌, ◌++◌, length, refl, ap, sym, subst, ◌∙◌, inl, inr}
 use Rattle.std.specs.Prelude.{◌==◌, if◌then◌else◌, Option, Some, None, drop, slice_get}
 use Rattle.mq_base.specs.Members.{Mem}
 use Rattle.mq_frame.specs.declared.frame.Frame.{Frame}
@@ -29,6 +29,7 @@ use Rattle.mq_spec_network.specs.Lawful.{node_begun}
 use Rattle.mq_spec_network.specs.Promised.{Premises}
 use Rattle.mq_spec_network.specs.Standing.{node_after}
 use Rattle.mq_spec_network.specs.Story.{Line, entries_at, entries_or, part}
+use Rattle.mq_law_image.proofs.Naming.{mapped_mem}
 use Rattle.mq_course.specs.Courses.{net_of}
 use Rattle.mq_law_channel.specs.Channel.{Channel, Facts, Past, tale, tale_of, tales}
 use Rattle.mq_law_channel.specs.Facts.{Binds, Tale}
@@ -131,17 +132,12 @@ line_mem m (x ∷ p) o k = bool_case (m == x.manager) (λ b. (m == x.manager) �
     (λ z off n. inr (line_mem m p o n)) refl k
 
 -- a BIND that was offered bears no session above the sender's
-map_in : {A B : Type 0} (f : A → B) (x : A) (xs : List A) → Mem x xs → Mem (f x) (map f xs)
-map_in f x [] m = absurd m
-map_in f x (y ∷ xs) (inl e) = inl (ap f e)
-map_in f x (y ∷ xs) (inr m) = inr (map_in f x xs m)
-
 bind_below : (x : Channel) (y : Past) → Facts x y → (f : Frame) → Mem f x.out → kind_is_bind f.kind ≡ true → f.session ≤ x.sends.session
 bind_below x y facts f m on = at f.kind refl on
   where
     at : (k : FrameKind) → f.kind ≡ k → kind_is_bind k ≡ true → f.session ≤ x.sends.session
     at (kinds.Bind last force) is e =
-        let there : Mem (Binds f.session last force) (tales x.out) = subst (λ (t : Tale). Mem t (tales x.out)) (ap (tale_of f.session) is) (map_in tale f x.out m) in
+        let there : Mem (Binds f.session last force) (tales x.out) = subst (λ (t : Tale). Mem t (tales x.out)) (ap (tale_of f.session) is) (mapped_mem tale f x.out m) in
         subst (λ (n : ℕ). f.session ≤ n) facts.tied.session (facts.sound.binds f.session last force there)
     at (kinds.Status a b c) is e = absurd cc
     at (kinds.Msg a b c d g) is e = absurd cc

@@ -7,6 +7,7 @@ use Rattle.mq_history.specs.declared.scenario.Scenario.{Scenario}
 use Rattle.mq_spec_network.specs.Conflict.{Deed as ToldDeed, NoConflict, deeds}
 use Rattle.mq_spec_network.specs.Promised.{Premises}
 use Rattle.mq_spec_network.specs.Story.{IsStory, Line, Mem, entries_at, entries_or, part}
+use Rattle.mq_law_manager.proofs.Lists.{mem_before}
 use Rattle.mq_law_node.proofs.Named.{bool_case}
 use Rattle.mq_law_one.proofs.Running.{none_more, one_more, told_of}
 use Rattle.mq_law_run.specs.Run.{Stand}
@@ -14,7 +15,7 @@ use Rattle.mq_law_run.proofs.Beginning.{begins}
 use Rattle.mq_law_run.proofs.Standing.{keeps_on}
 use Rattle.mq_law_run.proofs.Whole.{entry_moves}
 use Rattle.mq_law_rest.specs.Rests.{IsPeaceful}
-use Rattle.mq_law_rest.proofs.Calm.{IsCalm, calm_of, deeds_both, mem_first, mem_of_part}
+use Rattle.mq_law_rest.proofs.Calm.{IsCalm, calm_of, deeds_both, mem_of_part}
 
 -- ALL PREFIXES
 stands : (s : Scenario) (hs : List History) (story wide : List Line) (later : List ToldDeed) (before p rest : List Line) → Premises s hs → IsStory hs story → NoConflict s hs wide → deeds wide ≡ deeds story ++ later → story ≡ before ++ (p ++ rest)
@@ -84,7 +85,7 @@ stand_at s hs premises peaceful m h front back is split =
       prefix = r.before;
       stand = stands s hs calm.story calm.wide calm.later [] r.before r.rest premises calm.is calm.peace calm.split r.split (begins s hs premises);
       did = r.did;
-      told = λ x there. subst (λ (es : List Entry). Mem x.entry es) (calm.is.parts x.manager) (mem_of_part x calm.story (subst (Mem x) (sym r.split) (mem_first x r.before r.rest there)));
+      told = λ x there. subst (λ (es : List Entry). Mem x.entry es) (calm.is.parts x.manager) (mem_of_part x calm.story (subst (Mem x) (sym r.split) (mem_before x r.before r.rest there)));
     }
 
 pub stand_whole : (s : Scenario) (hs : List History) → Premises s hs → (calm : IsCalm s hs) → Stand s hs calm.story

@@ -59,10 +59,11 @@ use Rattle.mq_spec_node.specs.Operators.{close_open, end_here, is_bad_number, is
 use Rattle.mq_spec_node.specs.Replays.{done_by}
 use Rattle.mq_law_channel.specs.Channel.{Channel}
 use Rattle.mq_law_channel.specs.Turns as channels
-use Rattle.mq_law_channel.specs.Turns.{ReceiverTurn, data_settled, receiver_does}
+use Rattle.mq_law_channel.specs.Turns.{ReceiverTurn, data_settled}
 use Rattle.mq_law_channel.proofs.Told.{Doubted, doubt_is}
 use Rattle.mq_law_manager.specs.Facts.{IsSound}
 use Rattle.mq_law_manager.specs.Kept.{AllKeep}
+use Rattle.mq_law_manager.proofs.Lists.{mem_behind}
 use Rattle.mq_law_node.specs.Data.{receives_at, sends_at}
 use Rattle.mq_law_node.specs.Ends.{SendsAs, Sent, Taken as Took, TakesAs, Where, receiver_of, sender_of, told_receives}
 use Rattle.mq_law_node.specs.Moves.{FarStep, NearMay, NearStep, far_does, near_does}
@@ -97,7 +98,6 @@ use Rattle.mq_law_run.proofs.Receiving.{channel_else}
 use Rattle.mq_law_run.proofs.Running.{sends_here, sound_at, takes_here}
 use Rattle.mq_law_run.proofs.Serving as serving
 use Rattle.mq_law_run.proofs.Serving.{close_far, close_others, closed_told}
-use Rattle.mq_law_run.proofs.Telling.{mem_right}
 
 -- WHAT THE STOP OF SUCH A WRITE ASKS FOR, on a sender's end and on a receiver's
 record BreaksNear (w : Where) (n : Node) (c : Channel) (left : ℕ) (d : Deed) : Type 0 where
@@ -214,7 +214,7 @@ resolves_broken w n c left settle (Some d) h up so =
       says = λ r g. (
         Resolves settle own.data_ refl (h.unbatched (resting_apart c.sender.state off)) refl
             (subst (λ (u : Luw). Mem (did.Hardened w.channel (notes.Resolved u commit true)) (told ++ did.Hardened w.channel (notes.Resolved d.unit commit true) ∷ [])) (sym own.unit)
-            (mem_right (did.Hardened w.channel (notes.Resolved d.unit commit true)) told (did.Hardened w.channel (notes.Resolved d.unit commit true) ∷ []) (inl refl)))
+            (mem_behind (did.Hardened w.channel (notes.Resolved d.unit commit true)) told (did.Hardened w.channel (notes.Resolved d.unit commit true) ∷ []) (inl refl)))
             (λ f q x k e. subst (λ (t : Bool). Mem x.message.ident (sent_idents (map (settle_did t) (held_rows (holders.Batch w.channel) n.manager) ++ did.Hardened w.channel (notes.Resolved d.unit t true) ∷ []))) (sym f)
             (batch_told w.channel n.manager (did.Hardened w.channel (notes.Resolved d.unit true true) ∷ []) q x (left_row n.manager q x k) e)),
         settled_lasts w.channel d.unit commit true n.manager (ap (option_map unit_of) so) (h.unbatched (resting_apart c.sender.state off)),

@@ -1,6 +1,6 @@
 -- Each batch of a manager is found by its channel, and is of a cable that it sends.
 use Rattle.std.proofs.Common.{ℕ, ◌≡◌, ◌⊎◌, Bool, true, false, not, List, [], ◌∷◌, refl, ap, sym, subst, ◌∙◌, inl, inr}
-use Rattle.std.specs.Prelude.{Option, Some, None, if◌then◌else◌, filter}
+use Rattle.std.specs.Prelude.{Option, Some, None, if◌then◌else◌}
 use Rattle.std.specs.Str.{bytes_eq}
 use Rattle.mq_calls.specs.declared.records.LogRecord.{LogRecord}
 use Rattle.mq_calls.specs.declared.state.Batch.{Batch}
@@ -15,6 +15,7 @@ use Rattle.mq_calls.specs.Steps.{Part, do_all, do_part, logged}
 use Rattle.mq_spec_network.specs.Story.{Mem}
 use Rattle.mq_law_channel.proofs.Told.{and_both}
 use Rattle.mq_law_manager.proofs.Named.{batch_dropped, batch_set, name_is, name_self, name_turned}
+use Rattle.mq_law_manager.proofs.Removals.{mem_filter}
 use Rattle.mq_law_node.proofs.Named.{bool_case}
 use Rattle.mq_law_cables.specs.Joints.{AreCabled}
 use Rattle.mq_law_run.proofs.Beside.{adds_none, all_add_none, parts_add_none}
@@ -27,12 +28,6 @@ same_batches ks m p q e c = record {
 }
 
 -- a batch goes
-mem_left : (f : Batch → Bool) (bs : List Batch) (b : Batch) → Mem b (filter f bs) → Mem b bs × (f b ≡ true)
-mem_left f [] b n = absurd n
-mem_left f (x ∷ bs) b n = bool_case (f x) (λ t. f x ≡ t → Mem b (if t then x ∷ filter f bs else filter f bs) → Mem b (x ∷ bs) × (f b ≡ true))
-    (λ z e k. elim k [ inl w ↦ (inl w, ap f w ∙ e) | inr w ↦ let r = mem_left f bs b w in (inr r.0, r.1) ])
-    (λ z e k. let r = mem_left f bs b k in (inr r.0, r.1)) refl n
-
 not_yes : (t : Bool) → not t ≡ true → t ≡ false
 not_yes true e = absurd cc
 not_yes false e = refl
@@ -42,9 +37,9 @@ names_turned a b e = name_turned a b ∙ e
 
 pub drop_cabled : (ks : List CableLine) (m : ℕ) (c : List ℕ) (p : Plain) → AreCabled ks m p → AreCabled ks m (apply (DropBatch c) p)
 drop_cabled ks m c p h = record {
-  once = λ b n. let r = mem_left (λ (x : Batch). not (bytes_eq c x.channel)) p.channels.batches b n in
+  once = λ b n. let r = mem_filter b (λ (x : Batch). not (bytes_eq c x.channel)) p.channels.batches n in
       batch_dropped b.channel c p.channels.batches ∙ ap (λ t. if t then None else batch_of b.channel p.channels.batches) (names_turned b.channel c (not_yes (bytes_eq c b.channel) r.1)) ∙ h.once b r.0;
-  line = λ b n. h.line b (mem_left (λ (x : Batch). not (bytes_eq c x.channel)) p.channels.batches b n).0;
+  line = λ b n. h.line b (mem_filter b (λ (x : Batch). not (bytes_eq c x.channel)) p.channels.batches n).0;
 }
 
 -- a batch of a channel that has none comes

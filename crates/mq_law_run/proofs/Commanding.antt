@@ -58,6 +58,7 @@ use Rattle.mq_spec_network.specs.Story.{Line, Mem}
 use Rattle.mq_law_channel.specs.Channel.{Channel, Past}
 use Rattle.mq_law_channel.specs.Turns.{sender_stopped}
 use Rattle.mq_law_manager.specs.Facts.{IsSound}
+use Rattle.mq_law_manager.proofs.Lists.{mem_behind}
 use Rattle.mq_law_node.specs.Data.{sends_at}
 use Rattle.mq_law_node.specs.Ends.{SendsAs, Sent, Where, sender_of, told_sends}
 use Rattle.mq_law_node.specs.Moves.{NearMay, NearStep, near_does, near_past}
@@ -91,7 +92,7 @@ use Rattle.mq_law_run.proofs.Lining.{else_channel, else_index, mem_at}
 use Rattle.mq_law_run.proofs.Running.{IsRun, run_next, scene, sends_here, sound_at}
 use Rattle.mq_law_stopped.specs.Noted.{IsForcing}
 use Rattle.mq_law_run.proofs.Sending.{none_forced_now, step_moves}
-use Rattle.mq_law_run.proofs.Telling.{mem_right, risen_still, told_now}
+use Rattle.mq_law_run.proofs.Telling.{risen_still, told_now}
 
 -- WHAT IS POSTED
 -- what leaves the rows where they are
@@ -365,7 +366,7 @@ command_moves s hs p x z t i k d op o step scenario e q call chance r v =
       whole = ledger_step (opening_ledger s hs) p x ∙ operated_post m x.entry op v.answer l call chance reply v.is quiet;
       quiet = none_received x.entry.effect.delta quiet;
       tells = λ h. v.tells (opening_managers s hs) (deeds p ++ deeds_in m x.entry.effect.delta)
-          (λ b w. mem_right (told_of k.sender b) (deeds p) (deeds_in m x.entry.effect.delta) (told_here k.sender m (delta_of d.parts) x.entry.effect.delta b q delta w)) h;
+          (λ b w. mem_behind (told_of k.sender b) (deeds p) (deeds_in m x.entry.effect.delta) (told_here k.sender m (delta_of d.parts) x.entry.effect.delta b q delta w)) h;
       cabled = parts_cabled s.cables m d.parts n.manager v.adds (z.cabled m t.h t.is);
       near = λ j h f out a.
           let u : Where = near_at s j h in

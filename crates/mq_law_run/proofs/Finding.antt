@@ -36,10 +36,11 @@ use Rattle.mq_spec_node.specs.Deeds.{Done}
 use Rattle.mq_spec_node.specs.Replays.{done_by}
 use Rattle.mq_spec_network.specs.Conflict.{Deed as ToldDeed, NoConflict, deeds, deeds_in, is_committed}
 use Rattle.mq_spec_network.specs.Ledger as ledgers
-use Rattle.mq_spec_network.specs.Ledger.{Ledger, change_at, ledger}
+use Rattle.mq_spec_network.specs.Ledger.{Ledger, ledger}
 use Rattle.mq_spec_network.specs.Order.{unit_received}
 use Rattle.mq_spec_network.specs.Standing.{managers_at, node_after, opening_ledger, opening_managers}
 use Rattle.mq_spec_network.specs.Story.{Line, Mem}
+use Rattle.mq_law_manager.proofs.Lists.{mem_before, mem_behind}
 use Rattle.mq_law_channel.specs.Channel.{Channel, Facts, Past}
 use Rattle.mq_law_channel.specs.Turns.{ReceiverTurn, receiver_does}
 use Rattle.mq_law_node.specs.Data.{receiver_by_all, sender_by_all}
@@ -83,7 +84,7 @@ use Rattle.mq_law_run.proofs.Redoing.{FarPart, NearPart, end_returns, mid_of}
 use Rattle.mq_law_run.proofs.Resolving.{real_unit}
 use Rattle.mq_law_run.proofs.Returning.{call_returns, filter_quiet}
 use Rattle.mq_law_run.proofs.Running.{far_here, near_here, operated_before, scene, told_all, sent_kept}
-use Rattle.mq_law_run.proofs.Telling.{deeds_more, mem_left, mem_right, none_committed, risen_still, still_not, told_before, told_now}
+use Rattle.mq_law_run.proofs.Telling.{deeds_more, none_committed, risen_still, still_not, told_before, told_now}
 use Rattle.mq_law_run.proofs.Commanding.{told_here, told_of}
 use Rattle.mq_law_run.specs.Ordered.{IsForcedNow, forced_over}
 use Rattle.mq_law_run.proofs.Later.{later_self, near_later}
@@ -156,7 +157,7 @@ near_returns s hs wide p es x z t noted starts started st i k scenario peace spl
     let right : (d : InDoubt) → Mem (did.Hardened k.channel (notes.Resolved d.unit false true)) noted.delta → 1 ≤ d.unit.n → c.receives.unit ≢ d.unit = λ d o real.
     let it : ToldDeed = told_of k.sender (did.Hardened k.channel (notes.Resolved d.unit false true)) in
     backs_out_rightly s hs wide (deeds (p ++ x ∷ [])) es k.sender k.channel c y d.unit peace split now
-    (subst (λ (o : List ToldDeed). Mem it o) (sym split) (mem_left it (deeds (p ++ x ∷ [])) es (told_now p x it (told_now_ (notes.Resolved d.unit false true) o)))) (real_unit d.unit real) in
+    (subst (λ (o : List ToldDeed). Mem it o) (sym split) (mem_before it (deeds (p ++ x ∷ [])) es (told_now p x it (told_now_ (notes.Resolved d.unit false true) o)))) (real_unit d.unit real) in
     let r : Redone zz noted c y note.step mid = near_redone zz n c y noted note mid down_ right nk in
     let c1 : Channel = near_does note.step c in
     let y1 : Past = near_past note.step c y in
@@ -190,7 +191,7 @@ near_returns s hs wide p es x z t noted starts started st i k scenario peace spl
       housed = λ d o f. (o, f);
       tells = λ h o. subst (λ v. IsToldOf s (opening_managers s hs) v h.sender h.channel (xs h.sender h.channel) (ys h.sender h.channel)) (sym (deeds_more p x))
           (told_all s (opening_managers s hs) (deeds p) (deeds_in m x.entry.effect.delta) k c1 y1 z.xs z.ys
-          (r.tells (opening_managers s hs) (deeds p ++ deeds_in m x.entry.effect.delta) (λ v e. mem_right (told_of k.sender (did.Hardened k.channel v)) (deeds p) (deeds_in m x.entry.effect.delta) (told_now_ v e))
+          (r.tells (opening_managers s hs) (deeds p ++ deeds_in m x.entry.effect.delta) (λ v e. mem_behind (told_of k.sender (did.Hardened k.channel v)) (deeds p) (deeds_in m x.entry.effect.delta) (told_now_ v e))
           (grows s (opening_managers s hs) (deeds p) (deeds_in m x.entry.effect.delta) k.sender k.channel c y (z.told k there))) z.told h o);
       resolved = λ d e u f. elim (before d e u f) [
         | inl old ↦ told_before p x _ (z.resolved d e u old)

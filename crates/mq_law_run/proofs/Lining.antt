@@ -3,6 +3,7 @@ use Rattle.std.proofs.Common.{ℕ, zero, suc, ◌≡◌, ◌≢◌, Bool, true, 
 use Rattle.std.specs.Prelude.{Some, ◌==◌, ◌&&◌, if◌then◌else◌, slice_get}
 use Rattle.std.specs.Str.{bytes_eq}
 use Rattle.std.proofs.lemmas.Bool.Decides.{nat_tests}
+use Rattle.std.proofs.lemmas.Bool.{true≢false}
 use Rattle.mq_history.specs.declared.scenario.CableLine.{CableLine}
 use Rattle.mq_history.specs.declared.scenario.Scenario.{Scenario}
 use Rattle.mq_calls.specs.declared.choices.Choice.{Choice}
@@ -80,10 +81,7 @@ units_put xs k h c e = bool_case (here k h) (λ t. here k h ≡ t → (if t then
 
 -- a cable elsewhere has another number, and of one sender another channel
 pub else_index : (s : Scenario) (i j : ℕ) (k h : CableLine) → slice_get s.cables i ≡ Some k → slice_get s.cables j ≡ Some h → here k h ≡ false → (i == j) ≡ false
-else_index s i j k h e f q = eqb_no i j (λ z. true_not (sym (ap (here k) (sym (same_cable s i j k h e f z)) ∙ here_self k.sender k.channel) ∙ q))
-  where
-    true_not : true ≡ false → ⊥
-    true_not z = cc
+else_index s i j k h e f q = eqb_no i j (λ z. true≢false (sym (ap (here k) (sym (same_cable s i j k h e f z)) ∙ here_self k.sender k.channel) ∙ q))
 
 pub else_channel : (k h : CableLine) → h.sender ≡ k.sender → here k h ≡ false → bytes_eq h.channel k.channel ≡ false
 else_channel k h q e = sym (ap (λ t. t && bytes_eq h.channel k.channel) (ap (λ n. n == k.sender) q ∙ eqb_self k.sender)) ∙ e

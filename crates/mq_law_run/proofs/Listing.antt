@@ -27,14 +27,14 @@ use Rattle.mq_spec_network.specs.Order.{Forced, OrderAt, forced_after, forced_by
 use Rattle.mq_spec_network.specs.Story.{Line, Mem}
 use Rattle.mq_law_channel.proofs.Told.{unit_self, unit_yes}
 use Rattle.mq_law_manager.proofs.Named.{name_is, name_self}
+use Rattle.mq_law_manager.proofs.Lists.{mem_before, mem_behind}
 use Rattle.mq_law_rows.specs.Kinds.{among}
 use Rattle.mq_law_rows.specs.World.{Book, Ghost, InBatch, Inv, Tag, World, claim, is_forced, tag_idents}
-use Rattle.mq_law_rows.proofs.Lists.{bool_case, ident_self, map_mem, mem_map, true_false}
+use Rattle.mq_law_rows.proofs.Lists.{bool_case, ident_self, map_mem, mem_map, true_false, and_left, and_right}
 use Rattle.mq_law_rows.proofs.Owners.{ledger_row, told_ident}
 use Rattle.mq_law_rows.proofs.Receiving.{mem_any}
 use Rattle.mq_law_stopped.specs.Noted.{IsForcing}
 use Rattle.mq_law_run.specs.Ordered.{AreForced, AreListed, HasRow, IsForcedNow, forced_over}
-use Rattle.mq_law_run.proofs.Telling.{mem_left, mem_right}
 
 pub listed_more : (fs : List Forced) (p : List Line) (x : Line) → forced_over fs (p ++ x ∷ []) ≡ forced_in x.entry (forced_over fs p)
 listed_more fs [] x = refl
@@ -64,18 +64,10 @@ stays_if f c v (g ∷ fs) n e = bool_case (bytes_eq c g.channel && same_unit v g
     ])
     (λ t no_. elim n [ inl s ↦ inl s | inr o ↦ inr (stays_if f c v fs o e) ]) refl
   where
-    left : (a b : Bool) → (a && b) ≡ true → a ≡ true
-    left true b e = refl
-    left false b e = absurd (true_false (sym e))
-
-    right : (a b : Bool) → (a && b) ≡ true → b ≡ true
-    right true b e = e
-    right false b e = absurd (true_false (sym e))
-
     same_both : (g : Forced) → (bytes_eq c g.channel && same_unit v g.unit) ≡ true → f ≡ g → (bytes_eq f.channel c && same_unit f.unit v) ≡ true
     same_both g hit s =
-        let name : f.channel ≡ c = ap (λ (o : Forced). o.channel) s ∙ sym (name_is c g.channel (left (bytes_eq c g.channel) (same_unit v g.unit) hit)) in
-        let unit : f.unit ≡ v = ap (λ (o : Forced). o.unit) s ∙ sym (unit_yes v g.unit (right (bytes_eq c g.channel) (same_unit v g.unit) hit)) in
+        let name : f.channel ≡ c = ap (λ (o : Forced). o.channel) s ∙ sym (name_is c g.channel (and_left (bytes_eq c g.channel) (same_unit v g.unit) hit)) in
+        let unit : f.unit ≡ v = ap (λ (o : Forced). o.unit) s ∙ sym (unit_yes v g.unit (and_right (bytes_eq c g.channel) (same_unit v g.unit) hit)) in
         (λ i. bytes_eq (name i) c && same_unit (unit i) v) ∙ ap (λ t. t && same_unit v v) (name_self c) ∙ unit_self v
 
 or_left : (a b : Bool) → (a || b) ≡ false → a ≡ false
@@ -190,11 +182,11 @@ held_there h [] q r n e = absurd n
 held_there h (y ∷ qs) q r n e = bool_case (bytes_eq q y.name) (λ t. Mem r (if t then y else queue_in q qs).rows → (x : Remove) × Mem x (held_on h y ++ flat_map (held_on h) qs) × (x.ident ≡ r.message.ident))
     (λ t k. (
       record { queue = y.name; ident = r.message.ident },
-      mem_left _ (held_on h y) (flat_map (held_on h) qs)
+      mem_before _ (held_on h y) (flat_map (held_on h) qs)
           (mem_map (λ (row : Row). record { queue = y.name; ident = row.message.ident }) r (filter (λ (row : Row). held_by h row.by) y.rows) (kept_in r y.rows k e)),
       refl,
     ))
-    (λ t k. let o = held_there h qs q r k e in (o.0, mem_right o.0 (held_on h y) (flat_map (held_on h) qs) o.1, o.2)) n
+    (λ t k. let o = held_there h qs q r k e in (o.0, mem_behind o.0 (held_on h y) (flat_map (held_on h) qs) o.1, o.2)) n
   where
     kept_in : (r : Row) (xs : List Row) → Mem r xs → held_by h r.by ≡ true → Mem r (filter (λ (row : Row). held_by h row.by) xs)
     kept_in r [] n e = n

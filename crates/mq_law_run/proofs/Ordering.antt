@@ -11,6 +11,7 @@ use Rattle.mq_spec_network.specs.Order.{Before, KeepsQueue, others, unforced}
 use Rattle.mq_spec_network.specs.Story.{Mem}
 use Rattle.mq_queue.specs.Rows.{same_ident}
 use Rattle.mq_law_manager.proofs.Named.{name_is}
+use Rattle.mq_law_manager.proofs.Removals.{mem_filter}
 use Rattle.mq_law_channel.proofs.Told.{unit_yes}
 use Rattle.mq_law_rows.specs.World.{At, Book, Forced, Ghost, Gone, HeldBy, InBatch, InHand, InUnit, Inv, IsOthers, Owner, Unborn, World, is_forced, tag_idents}
 use Rattle.mq_law_rows.specs.Kinds.{Commits, among}
@@ -18,16 +19,10 @@ use Rattle.mq_law_rows.proofs.Lists.{and_left, and_right, bool_case, true_false}
 use Rattle.mq_law_rows.proofs.Ordering.{commit_keeps}
 use Rattle.mq_law_run.specs.Ordered.{AreListed, IsListed, IsOnly}
 
-less_mem : (p : Row → Bool) (x : Row) (xs : List Row) → Mem x (filter p xs) → Mem x xs × (p x ≡ true)
-less_mem p x [] n = absurd n
-less_mem p x (z ∷ zs) n = bool_case (p z) (λ t. p z ≡ t → Mem x (if t then z ∷ filter p zs else filter p zs) → Mem x (z ∷ zs) × (p x ≡ true))
-    (λ w e k. elim k [ inl s ↦ (inl s, ap p s ∙ e) | inr o ↦ let r = less_mem p x zs o in (inr r.0, r.1) ])
-    (λ w e k. let r = less_mem p x zs k in (inr r.0, r.1)) refl n
-
 less_before : (p : Row → Bool) (x y : Row) (xs : List Row) → Before x y (filter p xs) → Before x y xs
 less_before p x y [] b = absurd b
 less_before p x y (z ∷ zs) b = bool_case (p z) (λ t. Before x y (if t then z ∷ filter p zs else filter p zs) → Before x y (z ∷ zs))
-    (λ w k. elim k [ inl e ↦ inl (e.0, (less_mem p y zs e.1).0) | inr n ↦ inr (less_before p x y zs n) ])
+    (λ w k. elim k [ inl e ↦ inl (e.0, (mem_filter y p zs e.1).0) | inr n ↦ inr (less_before p x y zs n) ])
     (λ w k. inr (less_before p x y zs k)) b
 
 still_in : (p : order.Forced → Bool) (f : order.Forced) (fs : List order.Forced) → Mem f fs → p f ≡ true → Mem f (filter p fs)
@@ -81,5 +76,5 @@ pub keeps_its_queue : (w : World) (g : Ghost) (b : Book) (m : ℕ) (c : List ℕ
 keeps_its_queue w g b m c u t fs h k tight listed only a q = commit_keeps w g b m c u t h k tight a q (unforced (others c u fs) (b.rows a q))
     (λ x y n. less_before (λ (r : Row). not (order.is_forced (others c u fs) r.message.ident)) x y (b.rows a q) n)
     (λ x n o.
-    let k = less_mem (λ (r : Row). not (order.is_forced (others c u fs) r.message.ident)) x (b.rows a q) n in
+    let k = mem_filter x (λ (r : Row). not (order.is_forced (others c u fs) r.message.ident)) (b.rows a q) n in
     not_others w g b m c u fs h listed only a q x k.0 k.1 o)

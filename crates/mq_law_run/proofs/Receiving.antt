@@ -1,6 +1,6 @@
 -- A turn of a receiver's end that runs, as a move of the network.
-use Rattle.std.proofs.Common.{ℕ, ◌≡◌, ◌<◌, ◌≤◌, ◌⊎◌, Bool, true, false, List, [], ◌∷◌, ◌++◌, refl, ap, sym, subst, ◌∙◌, inl, inr, arith}
-use Rattle.std.specs.Prelude.{Option, Some, None, ◌==◌, ◌+◌, ◌&&◌, if◌then◌else◌, slice_get}
+use Rattle.std.proofs.Common.{ℕ, ◌≡◌, ◌<◌, ◌≤◌, ◌⊎◌, true, false, List, [], ◌∷◌, ◌++◌, refl, ap, sym, subst, ◌∙◌, inl, inr, arith}
+use Rattle.std.specs.Prelude.{Option, Some, None, ◌==◌, ◌+◌, if◌then◌else◌, slice_get}
 use Rattle.std.specs.Option.{option_map}
 use Rattle.std.specs.Str.{bytes_eq}
 use Rattle.mq_frame.specs.declared.frame.Frame.{Frame}
@@ -45,6 +45,7 @@ use Rattle.mq_law_channel.proofs.Following as following
 use Rattle.mq_law_manager.specs.Facts.{IsSound}
 use Rattle.mq_law_manager.proofs.Named.{name_is}
 use Rattle.mq_law_manager.proofs.Untouched.{parts_running}
+use Rattle.mq_law_manager.proofs.Lists.{mem_before, mem_behind}
 use Rattle.mq_law_node.specs.Beside.{AsideFar, AsideNear}
 use Rattle.mq_law_node.specs.Ends.{TakesAs, Taken as Took, Where, offering, receiver_of, receiver_out, taking_turn}
 use Rattle.mq_law_node.specs.Ends.{EachTaken as EachTook}
@@ -58,7 +59,7 @@ use Rattle.mq_law_node.proofs.Pairs.{offering_among}
 use Rattle.mq_law_node.proofs.ReceiverTurns.{refused_places, takes_as}
 use Rattle.mq_law_rows.specs.Families.{is_here, put_at}
 use Rattle.mq_law_rows.specs.World.{Book, World}
-use Rattle.mq_law_rows.proofs.Lists.{bool_case, eqb_self, here_self, here_yes, keep_all, true_false}
+use Rattle.mq_law_rows.proofs.Lists.{bool_case, eqb_self, here_self, here_yes, keep_all, true_false, and_left, and_right}
 use Rattle.mq_law_seen.specs.Seen.{book_of, world_of}
 use Rattle.mq_law_events.specs.Tied.{AreShelved}
 use Rattle.mq_law_story.proofs.Weaving.{ledger_step, manager_at}
@@ -93,7 +94,7 @@ use Rattle.mq_law_run.proofs.Listing.{forced_still, quiet_order}
 use Rattle.mq_law_run.proofs.Receipting.{EachCommits, IsCommitOf, commits_by, landed_listed, landed_order}
 use Rattle.mq_law_run.proofs.Lining.{index_of, all_moved, else_index, left_aside, mem_at, same_cable, same_index, here}
 use Rattle.mq_law_run.proofs.Running.{IsRun, move_to, run_next, scene, sends_here, sound_at, takes_here, told_all}
-use Rattle.mq_law_run.proofs.Telling.{deeds_more, mem_left, mem_right, risen_told, still_not, told_before, told_now}
+use Rattle.mq_law_run.proofs.Telling.{deeds_more, risen_told, still_not, told_before, told_now}
 
 -- each manager has its number
 pub numbers_of : (s : Scenario) (hs : List History) (p : List Line) → Stand s hs p → (a : ℕ) (v : Plain) → slice_get (managers_at s p hs) a ≡ Some v → v.given.number ≡ a + 1
@@ -139,7 +140,7 @@ undone_not s hs whole p x es m c ch y u out does none split told d o tells =
     let r : TellsCommit ends.Done (takes.Place u) c (deeds_in x.manager x.entry.effect.delta) = subst (λ w. TellsCommit ends.Done w c (deeds_in x.manager x.entry.effect.delta)) d (subst (λ w. TellsCommit w does c (deeds_in x.manager x.entry.effect.delta)) o tells) in
     agreed s hs whole (deeds (p ++ x ∷ [])) es m r.0 c ch y u none split
     (subst (λ ds. IsToldOf s (opening_managers s hs) ds m c ch y) (sym (deeds_more p x)) (grows s (opening_managers s hs) (deeds p) (deeds_in x.manager x.entry.effect.delta) m c ch y told))
-    (subst (λ (ds : List ToldDeed). Mem (record { manager = r.0; did = did.Received c u }) ds) (sym split) (mem_left _ (deeds (p ++ x ∷ [])) es (told_now p x _ r.1)))
+    (subst (λ (ds : List ToldDeed). Mem (record { manager = r.0; did = did.Received c u }) ds) (sym split) (mem_before _ (deeds (p ++ x ∷ [])) es (told_now p x _ r.1)))
 
 abbrev receiver_number : Actor → Option ℕ
 receiver_number (actors.Receiver i) = Some i
@@ -191,7 +192,7 @@ receiver_run s hs p x z t e d up is =
     behind d.parts n.manager sound (subst (EachSound n.manager) is (receivers_sound x.entry.stamp e x.entry.effect.popped n sound))
 
 tells_right : (out : ReceiverOut) (does : ReceiverDoes) (c : List ℕ) (xs ys : List ToldDeed) → TellsCommit out does c ys → TellsCommit out does c (xs ++ ys)
-tells_right ends.Done (takes.Place u) c xs ys r = (r.0, mem_right _ xs ys r.1)
+tells_right ends.Done (takes.Place u) c xs ys r = (r.0, mem_behind _ xs ys r.1)
 tells_right ends.Done takes.Still c xs ys r = tt
 tells_right ends.Done takes.Ignore c xs ys r = tt
 tells_right ends.Done takes.PushOwed c xs ys r = tt
@@ -220,14 +221,6 @@ committed_apart z v b c y turn u w r last does out rises same f =
       | inl ne ↦ ne (r.joint.tied.last ∙ now ∙ sym same)
       | inr e ↦ below_not u (subst (λ (o : Luw). Below o u) (sym last ∙ sym e ∙ r.joint.tied.last ∙ now) rises)
     ]
-
-pub both_left : (a b : Bool) → (a && b) ≡ true → a ≡ true
-both_left true b e = refl
-both_left false b e = absurd cc
-
-pub both_right : (a b : Bool) → (a && b) ≡ true → b ≡ true
-both_right true b e = e
-both_right false b e = absurd cc
 
 -- the last unit rises
 pub upto_self : (u : Luw) → Upto u u
@@ -428,7 +421,7 @@ receiver_moves s hs whole p es x z t i k d g scenario none split e q from actor 
         let turn : ReceiverTurn = taking_turn (far_at s i k) x.entry.stamp x.entry.effect.popped c.receiver c.kept (node_after s x.manager p t.h).manager in
         let out : turn.outcome ≡ ends.Done = ap (λ (dd : ReceiverDoes). receiver_out dd (far_at s i k) x.entry.effect.popped c.receiver c.kept (node_after s x.manager p t.h).manager) is_ ∙ commit.0 in
         let now : (receiver_turn turn c).receives.unit ≡ v = (λ j. (receiver_turned (out j) (is_ j) turn c).receives.unit) in
-        subst (λ (w : Luw). Upto u w) (sym now) (subst (λ (w : Luw). Upto u w) (unit_yes u v (both_right (bytes_eq k.channel k.channel) (same_unit u v) commit.1)) (upto_self u))
+        subst (λ (w : Luw). Upto u w) (sym now) (subst (λ (w : Luw). Upto u w) (unit_yes u v (and_right (bytes_eq k.channel k.channel) (same_unit u v) commit.1)) (upto_self u))
     now_last u takes.Still is_ commit = absurd commit
     now_last u takes.Ignore is_ commit = absurd commit
     now_last u takes.PushOwed is_ commit = absurd commit
@@ -439,7 +432,7 @@ receiver_moves s hs whole p es x z t i k d g scenario none split e q from actor 
 
     not_else : (h : CableLine) → Mem h s.cables → (u : Luw) → here k h ≡ false → (dd : ReceiverDoes) → IsCommit (receiver_of (far_at s i k) (z.xs k.sender k.channel).receiver (z.xs k.sender k.channel).kept) x.entry.effect.popped (node_after s x.manager p t.h) dd h.channel u → ⊥
     not_else h n_ u apart (takes.Place v) commit =
-        let ch : h.channel ≡ k.channel = name_is h.channel k.channel (both_left (bytes_eq h.channel k.channel) (same_unit u v) commit.1) in
+        let ch : h.channel ≡ k.channel = name_is h.channel k.channel (and_left (bytes_eq h.channel k.channel) (same_unit u v) commit.1) in
         let o = index_of s.cables h n_ in
         let one : h ≡ k = same_cable s o.0 i h k o.1 e (same_index s o.0 i h k scenario o.1 e ch) in
         true_false (sym (ap (λ (w : CableLine). here k w) one ∙ here_self k.sender k.channel) ∙ apart)
@@ -458,13 +451,13 @@ receiver_moves s hs whole p es x z t i k d g scenario none split e q from actor 
         × ((taking_turn (far_at s i k) x.entry.stamp x.entry.effect.popped (z.xs k.sender k.channel).receiver (z.xs k.sender k.channel).kept (node_after s x.manager p t.h).manager).outcome ≡ ends.Done)
         × (u ≡ v) × (a ≡ k.sender) × (b ≡ k.channel) → ⊥) → ⊥
     no_commit a b u (takes.Place v) is_ commit old f =
-        let ch : b ≡ k.channel = name_is b k.channel (both_left (bytes_eq b k.channel) (same_unit u v) commit.1) in
+        let ch : b ≡ k.channel = name_is b k.channel (and_left (bytes_eq b k.channel) (same_unit u v) commit.1) in
         let o = z.owned a b u old in
         let same : o.1 ≡ k = same_cable s o.0 i o.1 k o.2 e (same_index s o.0 i o.1 k scenario o.2 e (o.4 ∙ ch)) in
         f v (
           is_,
           ap (λ (dd : ReceiverDoes). receiver_out dd (far_at s i k) x.entry.effect.popped (z.xs k.sender k.channel).receiver (z.xs k.sender k.channel).kept (node_after s x.manager p t.h).manager) is_ ∙ commit.0,
-          unit_yes u v (both_right (bytes_eq b k.channel) (same_unit u v) commit.1),
+          unit_yes u v (and_right (bytes_eq b k.channel) (same_unit u v) commit.1),
           sym o.3 ∙ ap (λ (h : CableLine). h.sender) same,
           ch,
         )

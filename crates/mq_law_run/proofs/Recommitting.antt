@@ -65,11 +65,12 @@ use Rattle.mq_law_node.proofs.Landings.{QuietReceiver, landed_receiver, receiver
 use Rattle.mq_law_node.proofs.Moving.{far_keeps}
 use Rattle.mq_law_node.proofs.NearEvents.{redone_data}
 use Rattle.mq_law_manager.proofs.Named.{name_is}
+use Rattle.mq_law_manager.proofs.Lists.{mem_before, mem_behind}
 use Rattle.mq_law_seized.proofs.Landing.{LandedHas, landed_has}
 use Rattle.mq_law_rows.specs.Families.{put_at}
 use Rattle.mq_law_rows.specs.Kinds.{among, is_lost, place_all}
 use Rattle.mq_law_rows.specs.World.{Book, tag_idents}
-use Rattle.mq_law_rows.proofs.Lists.{bool_case, eqb_self, here_yes, true_false}
+use Rattle.mq_law_rows.proofs.Lists.{bool_case, eqb_self, here_yes, true_false, and_left, and_right}
 use Rattle.mq_law_seen.specs.Seen.{book_of, world_of}
 use Rattle.mq_law_seen.proofs.Bridges.{loses_rows}
 use Rattle.mq_law_events.specs.Posting.{IsTimed}
@@ -105,10 +106,10 @@ use Rattle.mq_law_run.proofs.Housing as housing
 use Rattle.mq_law_run.proofs.Landing.{EachBoth, landed_both}
 use Rattle.mq_law_run.proofs.Lining.{else_index, here, index_of, mem_at, same_cable, same_index}
 use Rattle.mq_law_run.proofs.Owning.{next_managers}
-use Rattle.mq_law_run.proofs.Receiving.{both_left, both_right, channel_else, committed_apart, not_loose, numbers_of, only_one, operated_old, shelved_of, upto_below, upto_on, upto_self}
+use Rattle.mq_law_run.proofs.Receiving.{channel_else, committed_apart, not_loose, numbers_of, only_one, operated_old, shelved_of, upto_below, upto_on, upto_self}
 use Rattle.mq_law_run.proofs.Redoing.{FarPart, NearPart, end_returns, mid_of}
 use Rattle.mq_law_run.proofs.Running.{far_here, near_here, scene, told_all}
-use Rattle.mq_law_run.proofs.Telling.{deeds_more, mem_left, mem_right, risen_told, still_not, told_before, told_now}
+use Rattle.mq_law_run.proofs.Telling.{deeds_more, risen_told, still_not, told_before, told_now}
 
 -- WHAT IT TELLS: its own commit, and no other
 received_lasts : (r : LogRecord) (b : Plain) (c : List ℕ) (u : Luw) (ds : List Did) → Mem (did.Received c u) (filter (lasts r b) (ds ++ did.Received c u ∷ []))
@@ -207,7 +208,7 @@ commit_returns s hs wide p es x z t noted starts started st i k scenario peace s
     let delta : x.entry.effect.delta ≡ ds = t.tells.delta ∙ ap (λ (o : Done). o.delta) is in
     let it : ToldDeed = told_of m (did.Received ch u) in
     let tells : Mem it (deeds_in m x.entry.effect.delta) = told_here m m ds x.entry.effect.delta (did.Received ch u) refl delta (subst (λ (o : List Did). Mem (did.Received ch u) o) (sym delta_is) (received_lasts r0 b ch u ld.delta)) in
-    let in_wide : (d : ToldDeed) → Mem d (deeds (p ++ x ∷ [])) → Mem d (deeds wide) = λ d o. subst (λ (v : List ToldDeed). Mem d v) (sym split) (mem_left d (deeds (p ++ x ∷ [])) es o) in
+    let in_wide : (d : ToldDeed) → Mem d (deeds (p ++ x ∷ [])) → Mem d (deeds wide) = λ d o. subst (λ (v : List ToldDeed). Mem d v) (sym split) (mem_before d (deeds (p ++ x ∷ [])) es o) in
     let committed : Mem it (deeds wide) = in_wide it (told_now p x it tells) in
     let now : IsToldOf s os (deeds (p ++ x ∷ [])) k.sender ch c y =
     subst (λ o. IsToldOf s os o k.sender ch c y) (sym (deeds_more p x)) (grows s os (deeds p) (deeds_in m x.entry.effect.delta) k.sender ch c y (z.told k there)) in
@@ -284,13 +285,13 @@ commit_returns s hs wide p es x z t noted starts started st i k scenario peace s
       housed = housed_so ds;
       tells = λ h o. subst (λ v. IsToldOf s os v h.sender h.channel (xs h.sender h.channel) (ys h.sender h.channel)) (sym (deeds_more p x))
           (told_all s os (deeds p) (deeds_in m x.entry.effect.delta) k c1 y z.xs z.ys
-          (receiver_tells s os (deeds p ++ deeds_in m x.entry.effect.delta) k.sender ch c y turn (tells_so turn.outcome (receiver_does turn c) ch u (deeds p ++ deeds_in m x.entry.effect.delta) note.commits.ran note.commits.does (m, mem_right it (deeds p) (deeds_in m x.entry.effect.delta) tells))
+          (receiver_tells s os (deeds p ++ deeds_in m x.entry.effect.delta) k.sender ch c y turn (tells_so turn.outcome (receiver_does turn c) ch u (deeds p ++ deeds_in m x.entry.effect.delta) note.commits.ran note.commits.does (m, mem_behind it (deeds p) (deeds_in m x.entry.effect.delta) tells))
           (grows s os (deeds p) (deeds_in m x.entry.effect.delta) k.sender ch c y (z.told k there))) z.told h o);
       resolved = λ d e v f. told_before p x _ (z.resolved d e v (old d e v f));
       not_yet = λ d e v f. still_not s os p x e v (only e v ∙ or_false (bytes_eq e ch && same_unit v u) (bool_case (bytes_eq e ch && same_unit v u) (λ o. (bytes_eq e ch && same_unit v u) ≡ o → o ≡ false)
           (λ o yes.
-          let ne : e ≡ ch = name_is e ch (both_left (bytes_eq e ch) (same_unit v u) yes) in
-          let nv : v ≡ u = unit_yes v u (both_right (bytes_eq e ch) (same_unit v u) yes) in
+          let ne : e ≡ ch = name_is e ch (and_left (bytes_eq e ch) (same_unit v u) yes) in
+          let nv : v ≡ u = unit_yes v u (and_right (bytes_eq e ch) (same_unit v u) yes) in
           let own = z.owned d e v (old d e v f) in
           let same : own.1 ≡ k = same_cable s own.0 i own.1 k own.2 at_k (same_index s own.0 i own.1 k scenario own.2 at_k (own.4 ∙ ne)) in
           let nd : d ≡ k.sender = sym own.3 ∙ ap (λ (h : CableLine). h.sender) same in
@@ -326,7 +327,7 @@ commit_returns s hs wide p es x z t noted starts started st i k scenario peace s
     mine_rises : (v last : Luw) → Upto note.commits.unit last → Upto (z.xs k.sender k.channel).receives.unit last → is_committed s (opening_managers s hs) (deeds (p ++ x ∷ [])) k.channel v ≡ true
         → committed_in k.channel v (deeds_in x.manager x.entry.effect.delta) ≡ ((bytes_eq k.channel k.channel && same_unit v note.commits.unit) || false) → Upto v last
     mine_rises v last self up f only = bool_case (committed_in k.channel v (deeds_in x.manager x.entry.effect.delta)) (λ e. committed_in k.channel v (deeds_in x.manager x.entry.effect.delta) ≡ e → Upto v last)
-        (λ e yes. subst (λ (d : Luw). Upto d last) (sym (unit_yes v note.commits.unit (both_right (bytes_eq k.channel k.channel) (same_unit v note.commits.unit) (or_true (bytes_eq k.channel k.channel && same_unit v note.commits.unit) (sym only ∙ yes))))) self)
+        (λ e yes. subst (λ (d : Luw). Upto d last) (sym (unit_yes v note.commits.unit (and_right (bytes_eq k.channel k.channel) (same_unit v note.commits.unit) (or_true (bytes_eq k.channel k.channel && same_unit v note.commits.unit) (sym only ∙ yes))))) self)
         (λ e no_. upto_on v (z.xs k.sender k.channel).receives.unit last (risen_told s (opening_managers s hs) p x k.channel (z.xs k.sender k.channel).receives.unit (z.risen k (mem_at s.cables i k at_k)) v no_ f) up) refl
 
     none_added : all_add_none note.commits.land.changes ≡ true → all_add_none noted.changes ≡ true

@@ -40,6 +40,7 @@ use Rattle.mq_spec_network.specs.Conflict.{Deed as ToldDeed, NoConflict, deeds, 
 use Rattle.mq_spec_network.specs.Order.{sent_idents}
 use Rattle.mq_spec_network.specs.Standing.{node_after, opening_managers}
 use Rattle.mq_spec_network.specs.Story.{Line, Mem}
+use Rattle.mq_law_manager.proofs.Lists.{mem_before, mem_behind}
 use Rattle.mq_law_channel.specs.Channel.{Channel, Past}
 use Rattle.mq_law_channel.specs.Turns.{data_settled, past_resolved, resolved}
 use Rattle.mq_law_channel.proofs.Core.{unit_eq}
@@ -62,7 +63,7 @@ use Rattle.mq_law_run.proofs.Lining.{mem_at}
 use Rattle.mq_law_run.proofs.Listing.{batch_told}
 use Rattle.mq_law_run.proofs.Running.{scene}
 use Rattle.mq_law_run.proofs.Sending.{none_forced_now}
-use Rattle.mq_law_run.proofs.Telling.{deeds_more, mem_left, mem_right, told_now}
+use Rattle.mq_law_run.proofs.Telling.{deeds_more, told_now}
 
 settle_leave : (rs : List Remove) → all_leave (map (settle_did false) rs) ≡ true
 settle_leave [] = refl
@@ -76,7 +77,7 @@ tells_it : (w : Where) (d : InDoubt) (n : Node) → Mem (backed_out w.channel d.
 tells_it w d n =
     let e : Did = backed_out w.channel d.unit in
     let ds : List Did = map (settle_did false) (held_rows (holders.Batch w.channel) n.manager) in
-    mem_left e (ds ++ e ∷ []) [] (mem_right e ds (e ∷ []) (inl refl))
+    mem_before e (ds ++ e ∷ []) [] (mem_behind e ds (e ∷ []) (inl refl))
 
 backs_out : (z : Scene) (n : Node) (c : Channel) (y : Past) (d : InDoubt) → IsAt z n c y → is_up n.manager.running ≡ true → senders.is_running c.sender.state ≡ false → in_doubt_of (sender_data z.place.channel n.manager) ≡ Some d
     → (1 ≤ d.unit.n → c.receives.unit ≢ d.unit) → Commands z n c y (resolve_deed z.place settles.Backout d n)
@@ -137,7 +138,7 @@ commits_it : (w : Where) (d : InDoubt) (n : Node) → Mem (committed_did w.chann
 commits_it w d n =
     let e : Did = committed_did w.channel d.unit in
     let ds : List Did = map (settle_did true) (held_rows (holders.Batch w.channel) n.manager) in
-    mem_left e (ds ++ e ∷ []) [] (mem_right e ds (e ∷ []) (inl refl))
+    mem_before e (ds ++ e ∷ []) [] (mem_behind e ds (e ∷ []) (inl refl))
 
 upto_both : (u v : Luw) → Upto u v → Upto v u → u ≡ v
 upto_both u v e f = unit_eq u v (grind (arith, e, f)) (grind (arith, e, f))
@@ -266,7 +267,7 @@ backing_out s hs whole p es x h stamp z i k name scenario none split is tells ow
     let delta : x.entry.effect.delta ≡ delta_of (resolve_deed w settles.Backout d n).parts = tells.delta ∙ ap (λ (v : Done). v.delta) run.is ∙ ap (λ (g : Deed). delta_of g.parts) same in
     let it : ToldDeed = told_of k.sender (backed_out k.channel d.unit) in
     backs_out_rightly s hs whole (deeds (p ++ x ∷ [])) es k.sender k.channel c y d.unit none split now
-    (subst (λ (ds : List ToldDeed). Mem it ds) (sym split) (mem_left it (deeds (p ++ x ∷ [])) es (told_now p x it (told_here k.sender x.manager (delta_of (resolve_deed w settles.Backout d n).parts) x.entry.effect.delta (backed_out k.channel d.unit) q delta (tells_it w d n)))))
+    (subst (λ (ds : List ToldDeed). Mem it ds) (sym split) (mem_before it (deeds (p ++ x ∷ [])) es (told_now p x it (told_here k.sender x.manager (delta_of (resolve_deed w settles.Backout d n).parts) x.entry.effect.delta (backed_out k.channel d.unit) q delta (tells_it w d n)))))
     (real_unit d.unit real) in
     commanded s hs p x z (record { h = h; is = is; stamp = stamp; tells = tells; own = own }) i k (resolve_doubt end settles.Backout o n) op scenario e q call chance run (ap (λ (v : Option SenderEnd). resolve_end settles.Backout v n) (sym named))
     (λ a. resolves_so (scene s hs p z k w) n c y o a up refl right)

@@ -1,5 +1,5 @@
 -- What an entry more tells, and what its post leaves.
-use Rattle.std.proofs.Common.{ℕ, ◌≡◌, Bool, true, false, List, [], ◌∷◌, ◌++◌, refl, ap, sym, subst, ◌∙◌, inl, inr}
+use Rattle.std.proofs.Common.{ℕ, ◌≡◌, Bool, true, false, List, [], ◌∷◌, ◌++◌, refl, ap, sym, subst, ◌∙◌}
 use Rattle.std.specs.Prelude.{None, ◌||◌, ◌≤◌}
 use Rattle.std.specs.List.{list_any}
 use Rattle.mq_sync.specs.declared.unit.Unit.{Unit as Luw}
@@ -21,6 +21,7 @@ use Rattle.mq_spec_network.specs.Ledger as ledgers
 use Rattle.mq_spec_network.specs.Ledger.{Ledger, posted}
 use Rattle.mq_spec_network.specs.Order.{unit_received}
 use Rattle.mq_spec_network.specs.Story.{Line, Mem}
+use Rattle.mq_law_manager.proofs.Lists.{mem_before, mem_behind}
 use Rattle.mq_law_deeds.specs.Numbers.{AreCountedAt, IsNext}
 use Rattle.mq_law_deeds.proofs.Counting.{calls_kept, cut_kept}
 
@@ -37,20 +38,11 @@ pub deeds_more : (p : List Line) (x : Line) → deeds (p ++ x ∷ []) ≡ deeds 
 deeds_more [] x = none_more (deeds_in x.manager x.entry.effect.delta)
 deeds_more (y ∷ p) x = ap (λ ds. deeds_in y.manager y.entry.effect.delta ++ ds) (deeds_more p x) ∙ sym (behind (deeds_in y.manager y.entry.effect.delta) (deeds p) (deeds_in x.manager x.entry.effect.delta))
 
-pub mem_left : {A : Type 0} (x : A) (xs ys : List A) → Mem x xs → Mem x (xs ++ ys)
-mem_left x [] ys n = absurd n
-mem_left x (y ∷ xs) ys (inl e) = inl e
-mem_left x (y ∷ xs) ys (inr n) = inr (mem_left x xs ys n)
-
-pub mem_right : {A : Type 0} (x : A) (xs ys : List A) → Mem x ys → Mem x (xs ++ ys)
-mem_right x [] ys n = n
-mem_right x (y ∷ xs) ys n = inr (mem_right x xs ys n)
-
 pub told_before : (p : List Line) (x : Line) (d : Deed) → Mem d (deeds p) → Mem d (deeds (p ++ x ∷ []))
-told_before p x d n = subst (Mem d) (sym (deeds_more p x)) (mem_left d (deeds p) (deeds_in x.manager x.entry.effect.delta) n)
+told_before p x d n = subst (Mem d) (sym (deeds_more p x)) (mem_before d (deeds p) (deeds_in x.manager x.entry.effect.delta) n)
 
 pub told_now : (p : List Line) (x : Line) (d : Deed) → Mem d (deeds_in x.manager x.entry.effect.delta) → Mem d (deeds (p ++ x ∷ []))
-told_now p x d n = subst (Mem d) (sym (deeds_more p x)) (mem_right d (deeds p) (deeds_in x.manager x.entry.effect.delta) n)
+told_now p x d n = subst (Mem d) (sym (deeds_more p x)) (mem_behind d (deeds p) (deeds_in x.manager x.entry.effect.delta) n)
 
 -- COMMITS
 or_none : (a b : Bool) → a ≡ false → b ≡ false → (a || b) ≡ false

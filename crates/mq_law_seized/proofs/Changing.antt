@@ -1,5 +1,5 @@
 -- A change that seizes, opens and holds nothing leaves seized queues their senders'.
-use Rattle.std.proofs.Common.{ℕ, ◌≡◌, ◌⊎◌, Bool, true, false, List, [], ◌∷◌, ◌++◌, refl, ap, sym, subst, ◌∙◌, inl, inr, map}
+use Rattle.std.proofs.Common.{ℕ, ◌≡◌, ◌⊎◌, Bool, true, false, List, [], ◌∷◌, ◌++◌, refl, ap, sym, subst, ◌∙◌, inl, inr}
 use Rattle.std.proofs.lemmas.Bool.{or_parts}
 use Rattle.std.specs.Prelude.{Option, Some, None, ◌==◌, ◌&&◌, ◌||◌, if◌then◌else◌, not, filter}
 use Rattle.std.specs.List.{list_any}
@@ -27,6 +27,7 @@ use Rattle.mq_law_manager.specs.View.{view}
 use Rattle.mq_law_manager.proofs.Lists.{bool_case, mem_append, mem_inserted_at, mem_keep, mem_retag}
 use Rattle.mq_law_manager.proofs.Removals.{mem_filter}
 use Rattle.mq_law_manager.proofs.SeenLaws.{applied}
+use Rattle.mq_law_manager.proofs.Routes.{map_mem}
 use Rattle.mq_law_seized.specs.Each.{has_none}
 use Rattle.mq_law_seized.proofs.Each.{all_keep, parts_keep, step_keeps}
 use Rattle.mq_law_seized.specs.Seized.{AreSeized, all_plain, is_plain, parts_plain, step_plain, strays}
@@ -40,11 +41,6 @@ pub none_any : {A : Type 0} (test : A → Bool) (xs : List A) → list_any test 
 none_any test [] e x n = absurd n
 none_any test (y ∷ ys) e x (inl q) = ap test q ∙ (or_parts (test y) (list_any test ys) e).0
 none_any test (y ∷ ys) e x (inr n) = none_any test ys (or_parts (test y) (list_any test ys) e).1 x n
-
-mem_mapped : {A B : Type 0} (f : A → B) (xs : List A) (y : B) → Mem y (map f xs) → (x : A) × Mem x xs × (y ≡ f x)
-mem_mapped f [] y n = absurd n
-mem_mapped f (x ∷ xs) y (inl e) = (x, inl refl, e)
-mem_mapped f (x ∷ xs) y (inr n) = let r = mem_mapped f xs y n in (r.0, inr r.1, r.2)
 
 mem_changed : (number : ℕ) (f : Connection → Connection) (cs : List Connection) (d : Connection) → Mem d (change_connection number f cs) → Mem d cs ⊎ ((o : Connection) × Mem o cs × (d ≡ f o))
 mem_changed number f [] d n = absurd n
@@ -128,8 +124,8 @@ none_reading test t (SetCursor number handle place) p e r =
 none_reading test t (Pend number item) p e r = changed_none test number (λ (c : Connection). record c { unit = c.unit ++ item ∷ [] }) p.connections r (λ o n h k. r o n h k)
 none_reading test t (EndUnit number) p e r = changed_none test number (λ (c : Connection). record c { unit = [] }) p.connections r (λ o n h k. r o n h k)
 none_reading test t (MakeStale way) p e r = λ d n h k.
-    let o = mem_mapped (made_stale way) p.connections d n in
-    let w = mem_mapped (λ (x : Handle). stale_if (has_step way x) x) o.0.handles h (subst (λ (c : Connection). Mem h c.handles) o.2 k) in
+    let o = map_mem (made_stale way) d p.connections n in
+    let w = map_mem (λ (x : Handle). stale_if (has_step way x) x) h o.0.handles (subst (λ (c : Connection). Mem h c.handles) o.2 k) in
     ap test w.2 ∙ stale_same test (has_step way w.0) w.0 t ∙ r o.0 o.1 w.0 w.1
 none_reading test t CountIdent p e r = r
 none_reading test t (ChangeObjects change) p e r = absurd cc

@@ -1,6 +1,7 @@
 -- What a turn of a sender's end posts: nothing, but for expired rows, which the ledger removes too.
 use Rattle.std.proofs.Common.{ℕ, ◌≡◌, Bool, true, false, not, List, [], ◌∷◌, ◌++◌, refl, ap, sym, subst, ◌∙◌, map, take}
 use Rattle.std.specs.Prelude.{Option, Some, None, ◌&&◌, if◌then◌else◌}
+use Rattle.std.proofs.lemmas.Bool.{and_parts}
 use Rattle.mq_message.specs.declared.message.Ident.{Ident}
 use Rattle.mq_message.specs.declared.message.Message.{Message}
 use Rattle.mq_queue.specs.declared.row.Row.{Row}
@@ -62,10 +63,6 @@ abbrev pub all_passed : List Did → Bool
 all_passed [] = true
 all_passed (d ∷ ds) = is_passed d && all_passed ds
 
-passed_both : (a b : Bool) → (a && b) ≡ true → (a ≡ true) × (b ≡ true)
-passed_both true b e = (refl, e)
-passed_both false b e = absurd (true_false (sym e))
-
 not_yes : (t : Bool) → not t ≡ true → t ≡ false
 not_yes true e = absurd (true_false (sym e))
 not_yes false e = refl
@@ -73,7 +70,7 @@ not_yes false e = refl
 pub takes_nothing : (t : ℕ) (ds : List Did) (l : Ledger) → all_passed ds ≡ true → take_all_gone t ds l ≡ l
 takes_nothing t [] l e = refl
 takes_nothing t (did.Removed queue ident why ∷ ds) l e =
-    let k = passed_both (not (is_taken why)) (all_passed ds) e in
+    let k = and_parts (not (is_taken why)) (all_passed ds) e in
     ap (λ b. take_all_gone t ds (when b (ledgers.take t ident) l)) (not_yes (is_taken why) k.0) ∙ takes_nothing t ds l k.1
 takes_nothing t (did.Placed queue ident dead ∷ ds) l e = takes_nothing t ds l e
 takes_nothing t (did.Moved from ident to target bare ∷ ds) l e = absurd (true_false (sym e))
@@ -85,7 +82,7 @@ takes_nothing t (did.Received c unit ∷ ds) l e = absurd (true_false (sym e))
 
 pub moves_nothing : (t : ℕ) (ds : List Did) (l : Ledger) → all_passed ds ≡ true → move_all t ds l ≡ l
 moves_nothing t [] l e = refl
-moves_nothing t (did.Removed queue ident why ∷ ds) l e = moves_nothing t ds l (passed_both (not (is_taken why)) (all_passed ds) e).1
+moves_nothing t (did.Removed queue ident why ∷ ds) l e = moves_nothing t ds l (and_parts (not (is_taken why)) (all_passed ds) e).1
 moves_nothing t (did.Placed queue ident dead ∷ ds) l e = moves_nothing t ds l e
 moves_nothing t (did.Moved from ident to target bare ∷ ds) l e = absurd (true_false (sym e))
 moves_nothing t (did.Held queue ident by ∷ ds) l e = moves_nothing t ds l e
@@ -96,7 +93,7 @@ moves_nothing t (did.Received c unit ∷ ds) l e = absurd (true_false (sym e))
 
 pub receives_nothing : (ds : List Did) → all_passed ds ≡ true → received_on ds ≡ None
 receives_nothing [] e = refl
-receives_nothing (did.Removed queue ident why ∷ ds) e = receives_nothing ds (passed_both (not (is_taken why)) (all_passed ds) e).1
+receives_nothing (did.Removed queue ident why ∷ ds) e = receives_nothing ds (and_parts (not (is_taken why)) (all_passed ds) e).1
 receives_nothing (did.Placed queue ident dead ∷ ds) e = receives_nothing ds e
 receives_nothing (did.Moved from ident to target bare ∷ ds) e = absurd (true_false (sym e))
 receives_nothing (did.Held queue ident by ∷ ds) e = receives_nothing ds e
@@ -115,7 +112,7 @@ passed_map g (x ∷ xs) each = (λ i. each x i && passed_map g xs each i)
 
 passed_behind : (xs ys : List Did) → all_passed xs ≡ true → all_passed ys ≡ true → all_passed (xs ++ ys) ≡ true
 passed_behind [] ys e f = f
-passed_behind (x ∷ xs) ys e f = let k = passed_both (is_passed x) (all_passed xs) e in (λ i. k.0 i && passed_behind xs ys k.1 f i)
+passed_behind (x ∷ xs) ys e f = let k = and_parts (is_passed x) (all_passed xs) e in (λ i. k.0 i && passed_behind xs ys k.1 f i)
 
 parts_behind : (xs ys : List Part) → all_passed (delta_of xs) ≡ true → all_passed (delta_of ys) ≡ true → all_passed (delta_of (xs ++ ys)) ≡ true
 parts_behind [] ys e f = f
@@ -123,7 +120,7 @@ parts_behind (x ∷ xs) ys e f = two (x.delta) (delta_of xs) (delta_of (xs ++ ys
   where
     two : (us vs ws : List Did) → all_passed (us ++ vs) ≡ true → (all_passed vs ≡ true → all_passed ws ≡ true) → all_passed (us ++ ws) ≡ true
     two [] vs ws e next = next e
-    two (u ∷ us) vs ws e next = let k = passed_both (is_passed u) (all_passed (us ++ vs)) e in (λ i. k.0 i && two us vs ws k.1 next i)
+    two (u ∷ us) vs ws e next = let k = and_parts (is_passed u) (all_passed (us ++ vs)) e in (λ i. k.0 i && two us vs ws k.1 next i)
 
 one_part : (part : Part) → all_passed part.delta ≡ true → all_passed (delta_of (part ∷ [])) ≡ true
 one_part part e = passed_behind part.delta [] e refl

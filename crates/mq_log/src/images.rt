@@ -7,7 +7,7 @@ ghost use Rattle.mq_log.specs.Images.{IsMoreBy, IsImage};
 use crate::scan::{OPEN, body_length};
 
 /// Which image of its bytes a log found when it was restarted.
-#[derive(Clone, Copy, Debug, PartialEq, Eq)]
+#[derive(Clone, Copy)]
 pub enum Found {
     /// The bodies from before, without the one whose forced write was stopped.
     Before,

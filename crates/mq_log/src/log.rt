@@ -84,7 +84,7 @@ fn stage(bytes: &mut Vec<u8>, head: &[u8], adds: &[u8], removes: &[u8])
 }
 
 /// Why a reservation was refused.
-#[derive(Clone, Copy, Debug, PartialEq, Eq)]
+#[derive(Clone, Copy)]
 pub enum LogFull {
     /// The length, what is reserved and the bytes pass the largest length.
     Full,

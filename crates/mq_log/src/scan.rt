@@ -7,7 +7,7 @@ ghost use Rattle.mq_log.specs.Open.{Front, Finds};
 pub const OPEN: u8 = 0xa5;
 
 /// What stands at the place of a gate.
-#[derive(Clone, Copy, Debug, PartialEq, Eq)]
+#[derive(Clone, Copy)]
 pub enum Gate {
     /// The first gate that isn't open.
     Closed(usize),

@@ -3,7 +3,7 @@
 use mq_disk::{Disk, Failed};
 
 /// How many calls of each kind a disk got. The length is asked without a count.
-#[derive(Clone, Copy, Debug, PartialEq, Eq)]
+#[derive(Clone, Copy)]
 pub struct Calls {
     /// Calls of `read_at`.
     pub reads: u64,

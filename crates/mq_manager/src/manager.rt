@@ -36,6 +36,7 @@ use mq_objects::{Command, Defs};
 use mq_restart::{LogRead, Unbegun, Unreturned};
 use mq_restarts::Back;
 use mq_sync::{Stock, Unit};
+use mq_told::LogTold;
 use std::alloc::Global;
 use std::marker::Model;
 
@@ -48,6 +49,8 @@ pub struct Manager<D: Disk> {
     pub core: Core<D>,
     /// What restarts have read of the log since the stop.
     pub read: LogRead,
+    /// What the log told the last restart, with the bytes that told it; none before the first.
+    pub told: Option<LogTold>,
 }
 
 impl<D: Disk> Model for Manager<D> {
@@ -91,6 +94,7 @@ impl<D: Disk> Manager<D> {
             Ok(core) => Ok(Manager {
                 core,
                 read: LogRead::Unread,
+                told: None,
             }),
             Err(unbegun) => Err(unbegun),
         }
@@ -326,7 +330,7 @@ impl<D: Disk> Manager<D> {
         ensures ends { MatchResult result (λ b. IsBack D.tells self.old.plain b self.new) (λ e. Stayed D.tells self.old.plain self.old.faults e self.new) }
         ensures passes { Passes self.old self.new }
     {
-        mq_restarts::restart(&mut self.core, &mut self.read)
+        mq_restarts::restart(&mut self.core, &mut self.read, &mut self.told)
     }
 
     /// What this manager's ends of a channel have hardened; none exactly where nothing was hardened yet. It takes no memory.

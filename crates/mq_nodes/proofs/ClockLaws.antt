@@ -52,7 +52,7 @@ clock_on ms i ls all c d e lt h x r =
 other_node : (m n : ℕ) (es : List Entry) (w : Network) → (n == m) ≡ false → node_at (does m es w) n ≡ node_at w n
 other_node m n es w other = ap (λ (xs : List Entry). node_of (w.first n) xs) (elsewhere m n es w.done other)
 
-by_none : (k : ℕ) (es : List Entry) → AreTriggers es → lines_by k es ≡ []
+pub by_none : (k : ℕ) (es : List Entry) → AreTriggers es → lines_by k es ≡ []
 by_none k [] h = refl
 by_none k (e ∷ es) h = ap (λ (c : Call). filter (λ (x : Entry). is_script k x.actor) (if not (is_trigger c) then e ∷ mains es else mains es)) h.0 ∙ by_none k es h.1
 
@@ -66,7 +66,7 @@ by_clock k m ms at e es h due =
     ∙ ap (λ (b : Bool). if b then e ∷ lines_by k es else lines_by k es) (ap (is_script k) h.1)
     ∙ by_none k es due
 
-same_lines : (k n at : ℕ) (es : List Entry) (w : Network) → lines_by k es ≡ [] → lines_by k ((does at es w).done n) ≡ lines_by k (w.done n)
+pub same_lines : (k n at : ℕ) (es : List Entry) (w : Network) → lines_by k es ≡ [] → lines_by k ((does at es w).done n) ≡ lines_by k (w.done n)
 same_lines k n at es w none = bool_case
     (λ (b : Bool). lines_by k (if b then w.done n ++ es else w.done n) ≡ lines_by k (w.done n))
     (by_more k (w.done n) es ∙ ap (λ (xs : List Entry). lines_by k (w.done n) ++ xs) none ∙ append-nil (lines_by k (w.done n)))

@@ -1,5 +1,5 @@
 -- A phase, manager by manager, is the first task of its step; what is left of its scripts stands behind it.
-use Rattle.std.specs.Prelude.{◌≡◌, ◌<◌, ◌≤◌, ◌==◌, ℕ, zero, suc, nat_lt, Bool, true, false, List, [], ◌∷◌, ◌++◌, Result, Ok, Err, IsErrAnd, length, refl}
+use Rattle.std.specs.Prelude.{◌≡◌, ◌<◌, ◌≤◌, ◌==◌, ℕ, zero, suc, nat_lt, Bool, true, false, List, [], ◌++◌, Result, Ok, Err, IsErrAnd, length, refl}
 use Rattle.std.proofs.Common.{ap, subst, sym, append-nil, arith, ◌∙◌}
 use Rattle.std.proofs.lemmas.Bool.Decides.{nat_tests}
 use Rattle.mq_history.specs.declared.calls.Entry.{Entry}
@@ -8,14 +8,13 @@ use Rattle.mq_spec_network.specs.Turns.{Network}
 use Rattle.mq_spec_network.specs.Tasks.{finish, tasks_of, try_all}
 use Rattle.mq_spec_network.specs.Tasks.Task.{Phase}
 use Rattle.mq_spec_network.specs.Steps.{Goes}
-use Rattle.mq_spec_network.specs.Steps.Goes.{stays}
+use Rattle.mq_spec_network.specs.Steps.Goes.{stays, passes}
 use Rattle.mq_spec_network.proofs.Going.{elsewhere, here, same_network}
 use Rattle.mq_spec_network.proofs.Threads.{does_each, phase_joined}
 use Rattle.mq_nodes.specs.declared.nodes.Stop.{Stop}
 use Rattle.mq_nodes.specs.declared.nodes.Stop.TheVariants as stops
-use Rattle.mq_nodes.specs.Course.{Course}
-use Rattle.mq_nodes.specs.Told.{Onward, Part, PhaseTold, Phased}
-use Rattle.mq_nodes.proofs.Onward.{passed}
+use Rattle.mq_nodes.specs.Course.{Course, Ready}
+use Rattle.mq_nodes.specs.Told.{Part, PhaseTold, Phased, Tries}
 
 -- What the first managers do more, one after the other, is what each of them does more.
 itself : (m : ℕ) → (m == m) ≡ true
@@ -74,10 +73,20 @@ goes_so ks c d h =
     subst (λ (w : Network). Goes c.net (tasks_of c.net (kinds.Phase ks)) w (tasks_of c.net (kinds.Phase ks))) (each_is (length c.net.scenario.managers) h.since c.net h.others ∙ sym h.net)
     (phase_joined (length c.net.scenario.managers) c.net c.net (tasks_of c.net (kinds.Phase ks)) (try_all c.net ks) (finish (try_all c.net ks)) h.since stays h.phased)
 
-pub phase_told : (ks : List ℕ) (c d : Course) (done : Unit {0}) → PhaseTold ks (Ok done) c d → Onward (tasks_of c.net (kinds.Phase ks)) (finish (try_all c.net ks)) c d
-phase_told ks c d done h =
-    passed (tasks_of c.net (kinds.Phase ks)) (Phase (try_all c.net ks)) [] (finish (try_all c.net ks)) c d
-    (record { goes = goes_so ks c d h.0; ready = h.1; marks = h.0.marks; rests = λ q. h.2 }) refl
+-- Behind it its scripts are finished; these are left, whose gets may wait.
+pub record Finishing (ks left : List ℕ) (c d : Course) : Type 0 where
+  pub goes : Goes c.net (tasks_of c.net (kinds.Phase ks)) d.net (finish (try_all c.net left))
+  pub ready : Ready d.net
+  pub marks : d.marks ≡ c.marks
+  pub tries : Tries left c d
+
+pub phase_told : (ks : List ℕ) (c d : Course) (done : Unit {0}) → PhaseTold ks (Ok done) c d → Finishing ks ks c d
+phase_told ks c d done h = record {
+  goes = passes d.net (Phase (try_all c.net ks)) [] (finish (try_all c.net ks)) (goes_so ks c d h.0) h.1.served refl;
+  ready = h.1;
+  marks = h.0.marks;
+  tries = h.2;
+}
 
 broke_off : (ks : List ℕ) (c d : Course) (stop : Stop) → PhaseTold ks (Err stop) c d → Part {T = Unit {0}} (tasks_of c.net (kinds.Phase ks)) (Err stop) c d
 broke_off ks c d stops.NoMemory h = record { left = tasks_of c.net (kinds.Phase ks); goes = goes_so ks c d h; marks = h.marks; ends = tt }

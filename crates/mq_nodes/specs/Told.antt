@@ -1,5 +1,5 @@
 -- What calls on nodes tell: one event more, or none; and what a part of a step tells of a call that does it.
-use Rattle.std.specs.Prelude.{◌≡◌, ◌<◌, ◌≤◌, ◌+◌, ◌⊎◌, ℕ, suc, min, Bool, true, false, List, [], ◌∷◌, ◌++◌, Option, Some, None, Result, Ok, Err, take, slice_get, length}
+use Rattle.std.specs.Prelude.{◌≡◌, ◌<◌, ◌≤◌, ◌+◌, ◌⊎◌, ◌==◌, ℕ, suc, min, Bool, true, false, List, [], ◌∷◌, ◌++◌, Option, Some, None, Result, Ok, Err, take, slice_get, length}
 use Rattle.mq_history.specs.declared.calls.Actor.TheVariants as actors
 use Rattle.mq_history.specs.declared.calls.Entry.{Entry}
 use Rattle.mq_history.specs.declared.history.History.{History}
@@ -9,12 +9,14 @@ use Rattle.mq_history.specs.declared.scenario.RulesPart.{RulesPart}
 use Rattle.mq_history.specs.declared.scenario.Scenario.{Scenario}
 use Rattle.mq_history.specs.declared.scenario.ScriptPart.{ScriptPart}
 use Rattle.mq_history.specs.declared.scenario.Step.{Step}
+use Rattle.mq_history.specs.declared.scripts.ScriptLine.{ScriptLine}
 use Rattle.mq_spec_node.specs.Node.{Node}
 use Rattle.mq_spec_node.specs.Monitors.{begins}
 use Rattle.mq_spec_manager.specs.Stops.{last_moment}
 use Rattle.mq_spec_node.specs.Lines.{Next, next_by, lines_by}
+use Rattle.mq_spec_node.specs.Scripts.{deadline, wait_of}
 use Rattle.mq_spec_node.specs.Lines.Next.{Ends, Waits, Makes}
-use Rattle.mq_spec_network.specs.Story.{entries_at}
+use Rattle.mq_spec_network.specs.Story.{Mem, entries_at}
 use Rattle.mq_spec_network.specs.Turns.{Network, node_at}
 use Rattle.mq_spec_network.specs.ScriptLines.{lines_left}
 use Rattle.mq_spec_network.specs.Tasks.{Task, moment_of, try_all}
@@ -126,14 +128,41 @@ pub record Onward (all left : List Task) (c d : Course) : Type 0 where
   pub marks : d.marks ≡ c.marks
   pub rests : Rests c → Rests d
 
--- A script's next lines, at most so many; and one of them.
-abbrev pub upto : ℕ → ScriptPart → ℕ → Course → List Task
-upto k p n c = Lines k p None (take n (lines_left c.net k p)) ∷ []
+-- A script's next lines, at most so many, the first of which may have been tried at a moment.
+abbrev pub upto : ℕ → ScriptPart → Option ℕ → ℕ → Course → List Task
+upto k p tried n c = Lines k p tried (take n (lines_left c.net k p)) ∷ []
 
-abbrev pub OneLine : ℕ → ScriptPart → Result Bool Stop → Course → Course → Type 0
-OneLine k p (Ok true) c d = (n : ℕ) → Onward (upto k p (suc n) c) (upto k p n d) c d
-OneLine k p (Ok false) c d = (d ≡ c) × (lines_left c.net k p ≡ [])
-OneLine k p (Err stop) c d = (n : ℕ) → Part {T = Bool} (upto k p (suc n) c) (Err stop) c d
+-- the deadline of the first of these lines, where it is a get, from the moment of its first try
+abbrev pub first_until : ℕ → List ScriptLine → Option ℕ
+first_until moment [] = None
+first_until moment (l ∷ ls) = deadline moment (wait_of l)
+
+-- What is kept of a script's next line: nothing, or, where it was tried before, its deadline from the moment of that try.
+abbrev pub KeptSo : Option ℕ → List ScriptLine → Option ℕ → Type 0
+KeptSo None ls kept = kept ≡ None
+KeptSo (Some moment) ls kept = (kept ≡ None) ⊎ (kept ≡ first_until moment ls)
+
+abbrev pub IsTried : ℕ → ScriptPart → Option ℕ → Course → Type 0
+IsTried k p tried c = KeptSo tried (lines_left c.net k p) (c.waits k)
+
+abbrev pub MayTry : ℕ → ScriptPart → Course → Type 0
+MayTry k p c = (tried : Option ℕ) × IsTried k p tried c
+
+-- While one script goes on, the others keep the deadlines of their gets, and their lines; behind it its own get does not wait.
+pub record Alone (k : ℕ) (c d : Course) : Type 0 where
+  pub waits : (j : ℕ) → (j == k) ≡ false → d.waits j ≡ c.waits j
+  pub lines : (j m : ℕ) → (j == k) ≡ false → lines_by j (d.net.done m) ≡ lines_by j (c.net.done m)
+  pub rests : d.waits k ≡ None
+
+-- One line of a script.
+abbrev pub OneLine : ℕ → ScriptPart → Option ℕ → Result Bool Stop → Course → Course → Type 0
+OneLine k p tried (Ok true) c d = ((n : ℕ) → Onward (upto k p tried (suc n) c) (upto k p None n d) c d) × Alone k c d
+OneLine k p tried (Ok false) c d = (d ≡ c) × (lines_left c.net k p ≡ []) × (c.waits k ≡ None)
+OneLine k p tried (Err stop) c d = (n : ℕ) → Part {T = Bool} (upto k p tried (suc n) c) (Err stop) c d
+
+-- whenever it was tried first
+abbrev pub LineRan : ℕ → ScriptPart → Result Bool Stop → Course → Course → Type 0
+LineRan k p r c d = (tried : Option ℕ) → IsTried k p tried c → OneLine k p tried r c d
 
 -- What each manager did in a phase of these scripts, each entry where it may stand, and in no order with what the others did;
 -- nothing was noted.
@@ -144,9 +173,14 @@ pub record Phased (ks : List ℕ) (c d : Course) : Type 0 where
   pub phased : (m : ℕ) → m < length c.net.scenario.managers → AllInPhase (try_all c.net ks) m (c.net.done m) (since m)
   pub marks : d.marks ≡ c.marks
 
--- Behind it no get waits: what is left of its scripts is tried anew.
+-- Behind it the next line of each of these scripts may have been tried, at the moment with which the phase began at its manager: where it is a
+-- get, its deadline is kept from then. No other get waits.
+pub record Tries (ks : List ℕ) (c d : Course) : Type 0 where
+  pub others : (k : ℕ) → (Mem k ks → ⊥) → d.waits k ≡ None
+  pub each : (k : ℕ) (p : ScriptPart) → Mem k ks → slice_get c.net.scenario.scripts k ≡ Some p → IsTried k p (Some (moment_of (node_at c.net p.manager))) d
+
 abbrev pub PhaseTold : List ℕ → Result (Unit {0}) Stop → Course → Course → Type 0
-PhaseTold ks (Ok done) c d = Phased ks c d × Ready d.net × Rests d
+PhaseTold ks (Ok done) c d = Phased ks c d × Ready d.net × Tries ks c d
 PhaseTold ks (Err stops.NoMemory) c d = Phased ks c d
 PhaseTold ks (Err (stops.Spent m)) c d = Phased ks c d × IsSpent m d.net
 

@@ -3,7 +3,7 @@ use mq_history::ScriptPart;
 use mq_sc_parse::Command;
 
 /// Why a run ends within a step.
-#[derive(Clone, Copy, Debug, PartialEq, Eq)]
+#[derive(Clone, Copy)]
 pub enum Stop {
     /// There was no memory. The event stands where only a trigger turn after it found none.
     NoMemory,
@@ -12,7 +12,7 @@ pub enum Stop {
 }
 
 /// What a script did.
-#[derive(Clone, Copy, Debug, PartialEq, Eq)]
+#[derive(Clone, Copy)]
 pub enum Advanced {
     /// Its next line.
     Done,
@@ -23,7 +23,7 @@ pub enum Advanced {
 }
 
 /// What a monitor's turn did.
-#[derive(Clone, Copy, Debug, PartialEq, Eq)]
+#[derive(Clone, Copy)]
 pub enum Monitored {
     /// Nothing: there is no message to get.
     Idle,

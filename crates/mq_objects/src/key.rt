@@ -11,7 +11,7 @@ use std::hash::{Hash, Hasher};
 
 /// The name spaces of objects: queues of all kinds share one, channels and processes have their own
 /// (IBM MQ: Rules for naming IBM MQ objects).
-#[derive(Clone, Copy, Debug, PartialEq, Eq)]
+#[derive(Clone, Copy)]
 pub enum NameSpace {
     /// Local queues, alias queues and remote queues.
     Queues,

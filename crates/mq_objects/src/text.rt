@@ -9,7 +9,7 @@ use mq_base::Items;
 use std::alloc::{AllocError, Global};
 
 /// How attributes are written: as DISPLAY shows them, or as a command gives them.
-#[derive(Clone, Copy, Debug, PartialEq, Eq)]
+#[derive(Clone, Copy)]
 pub enum Style {
     /// As DISPLAY shows them: texts bare, and a blank for an empty one.
     Shown,

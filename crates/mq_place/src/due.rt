@@ -9,7 +9,7 @@ use std::alloc::Global;
 use std::marker::Model;
 
 /// On which queues triggers may be due.
-#[derive(Clone, Copy, Debug, PartialEq, Eq)]
+#[derive(Clone, Copy)]
 pub enum DueAt {
     /// On none.
     Nowhere,

@@ -4,7 +4,7 @@
 use mq_sync::Unit;
 
 /// A frame that a receiver owes and hasn't pushed yet.
-#[derive(Clone, Copy, Debug, PartialEq, Eq)]
+#[derive(Clone, Copy, PartialEq, Eq)]
 pub enum Owed {
     /// The session is bound; the last unit and the last sequence number.
     Status {
@@ -26,7 +26,7 @@ pub enum Owed {
 }
 
 /// Where a receiver stands.
-#[derive(Clone, Copy, Debug, PartialEq, Eq)]
+#[derive(Clone, Copy)]
 pub enum ReceiverState {
     /// No session is bound: since its manager started, or since the session was closed.
     Inactive,
@@ -42,7 +42,7 @@ pub enum ReceiverState {
 }
 
 /// A receiver. What is hardened of it is its session, its last unit and its last sequence number.
-#[derive(Clone, Copy, Debug, PartialEq, Eq)]
+#[derive(Clone, Copy)]
 pub struct Receiver {
     pub state: ReceiverState,
     /// The frame that it owes, if there is one.

@@ -3,7 +3,7 @@
 use mq_sync::Unit;
 
 /// What a receiver's turn does.
-#[derive(Clone, Copy, Debug, PartialEq, Eq)]
+#[derive(Clone, Copy, PartialEq, Eq)]
 pub enum ReceiverDoes {
     /// Nothing; no item waits.
     Still,
@@ -24,7 +24,7 @@ pub enum ReceiverDoes {
 }
 
 /// What came of a turn.
-#[derive(Clone, Copy, Debug, PartialEq, Eq)]
+#[derive(Clone, Copy)]
 pub enum ReceiverOut {
     Done,
     /// The cable refused the push.

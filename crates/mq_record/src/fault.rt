@@ -7,7 +7,7 @@ use mq_frame::Stop;
 use thiserror::Error;
 
 /// Why no record was read from a body.
-#[derive(Clone, Copy, Debug, PartialEq, Eq, Error)]
+#[derive(Clone, Copy, Debug, Error)]
 pub enum BodyFault {
     /// The bytes are no record's.
     #[error("the body is no record")]

@@ -5,7 +5,7 @@ use mq_message::Bytes;
 
 /// What a command in the log does to the objects: it gives an object or the manager all its
 /// attributes, or deletes an object.
-#[derive(Clone, Copy, Debug, PartialEq, Eq)]
+#[derive(Clone, Copy, PartialEq, Eq)]
 pub enum Operation {
     Set,
     Delete,

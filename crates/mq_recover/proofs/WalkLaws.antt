@@ -20,21 +20,21 @@ use Rattle.mq_recover.specs.declared.recovery.RecoverFault.TheVariants.{BadRecor
 use Rattle.mq_recover.specs.Recovering.{seen, Does}
 use Rattle.mq_recover.specs.Found.{given_as, Recovers, Told}
 
--- so much of all bodies was read, with this image
-pub record Went (g : Given) (start : Start) (all : List (List ℕ)) (place : ℕ) (framed : List ℕ) (i : Image) : Type 0 where
+-- so much of all bodies was read, from a place and an image on, with this image
+pub record Went (g : Given) (start : Start) (from : ℕ) (before : Image) (all : List (List ℕ)) (place : ℕ) (framed : List ℕ) (i : Image) : Type 0 where
   pub rest : List (List ℕ)
   pub fits : AllFit rest
   pub framed_is : framed ≡ frames rest
-  pub same : image_from g start 0 all empty_image ≡ image_from g start place rest i
+  pub same : image_from g start from all before ≡ image_from g start place rest i
 
 -- each list of bodies that the bytes are goes on so
 abbrev pub Goes : List ℕ → Option Split → Type 0
 Goes framed found = (all : List (List ℕ)) → AllFit all → framed ≡ frames all → Walks all found
 
-module _ (g : Given) (start : Start) (all : List (List ℕ)) (place : ℕ) (framed : List ℕ) (i : Image) where
+module _ (g : Given) (start : Start) (from : ℕ) (before : Image) (all : List (List ℕ)) (place : ℕ) (framed : List ℕ) (i : Image) where
   goes_on : (split : Split) (rest : List (List ℕ)) → AllFit rest → framed ≡ frames rest → Walks rest (Some split)
-      → image_from g start 0 all empty_image ≡ image_from g start place rest i
-      → (j : Image) → behind g start i (record_of split.body.now) ≡ Some j → (further : ℕ) → further ≡ place + (length framed - length split.rest.framed.now) → Went g start all further split.rest.framed.now j
+      → image_from g start from all before ≡ image_from g start place rest i
+      → (j : Image) → behind g start i (record_of split.body.now) ≡ Some j → (further : ℕ) → further ≡ place + (length framed - length split.rest.framed.now) → Went g start from before all further split.rest.framed.now j
   goes_on split [] fits is h same j e further far = absurd (cc h)
   goes_on split (body ∷ rest) fits is h same j e further far =
       let size : length framed ≡ length (frame body) + length split.rest.framed.now = ap length is ∙ length-append (frame body) (frames rest) ∙ ap (λ (x : List ℕ). length (frame body) + length x) (sym h.1) in
@@ -50,8 +50,8 @@ module _ (g : Given) (start : Start) (all : List (List ℕ)) (place : ℕ) (fram
       }
 
   -- the first body is a record that applies
-  pub went_on : (split : Split) → Went g start all place framed i → Goes framed (Some split)
-      → (j : Image) → behind g start i (record_of split.body.now) ≡ Some j → (further : ℕ) → further ≡ place + (length framed - length split.rest.framed.now) → Went g start all further split.rest.framed.now j
+  pub went_on : (split : Split) → Went g start from before all place framed i → Goes framed (Some split)
+      → (j : Image) → behind g start i (record_of split.body.now) ≡ Some j → (further : ℕ) → further ≡ place + (length framed - length split.rest.framed.now) → Went g start from before all further split.rest.framed.now j
   went_on split w goes j e further far = goes_on split w.rest w.fits w.framed_is (goes w.rest w.fits w.framed_is) w.same j e further far
 
 -- what stands behind a record that applies

@@ -35,3 +35,8 @@ Told (Ok meant) (Err (BadRecord place)) = ⊥
 Told (Err at) (Ok told) = ⊥
 Told (Err at) (Err (BadRecord place)) = place ≡ at
 Told _ (Err NoMemory) = Unit {0}
+
+-- what was told in the end, or the fault
+abbrev pub walked : {A : Type 0} → Recovering → Result A RecoverFault → Result Recovering RecoverFault
+walked now (Ok done) = Ok now
+walked now (Err fault) = Err fault

@@ -14,5 +14,6 @@ mod start;
 mod steps;
 mod strikes;
 
-pub use recovery::{RecoverFault, image};
+pub use recovering::Recovering;
+pub use recovery::{RecoverFault, begins, image, walk_on};
 pub use start::Start;

@@ -3,6 +3,7 @@ ghost use Rattle.std.specs.Prelude.{◌≡◌, [], None, OnOk, IfOk};
 ghost use Rattle.mq_calls.specs.Reads.{receiver_in};
 ghost use Rattle.mq_calls.specs.Changes.{set_receiver};
 ghost use Rattle.mq_sync.specs.Settlement.{receiver_or};
+ghost use Rattle.mq_recover.specs.Kept.{receiver_sides};
 
 use crate::named::ByName;
 use mq_base::{ChName, Items, NoMemory, QName};
@@ -52,6 +53,22 @@ fn copy_receiver(data: &ReceiverData) -> ReceiverData
     }
 }
 
+fn copy_sides(
+    alloc: Global,
+    sides: &BTreeMap<ByName, ReceiverData>,
+) -> Result<Items<ReceiverSide>, NoMemory>
+    ensures { IfOk result (λ copies. copies ≡ receiver_sides sides.now.entries) }
+{
+    let mut copies = Items::new(alloc);
+    for (key, hardened) in sides.iter() {
+        copies.push(ReceiverSide {
+            channel: key.name,
+            hardened: copy_receiver(hardened),
+        })?;
+    }
+    Ok(copies)
+}
+
 impl Receivers {
     /// None has hardened anything.
     pub fn new(alloc: Global) -> Receivers
@@ -93,5 +110,12 @@ impl Receivers {
             })?;
         }
         Ok(found)
+    }
+
+    /// Copies of all of them.
+    pub fn to_sides(&self, alloc: Global) -> Result<Items<ReceiverSide>, NoMemory>
+        ensures { IfOk result (λ sides. sides ≡ self.now) }
+    {
+        copy_sides(alloc, &self.sides)
     }
 }

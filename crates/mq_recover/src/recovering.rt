@@ -65,6 +65,23 @@ impl Recovering {
         })
     }
 
+    /// A copy of the image so far.
+    pub fn to_image(&self, alloc: Global) -> Result<Image, NoMemory>
+        ensures { IfOk result (λ image. image ≡ seen self.now) }
+    {
+        let definitions = copy_definitions(alloc, &self.defs)?;
+        let shelves = self.shelves.to_shelves(alloc)?;
+        let senders = self.senders.to_sides(alloc)?;
+        let receivers = self.receivers.to_sides(alloc)?;
+        Ok(Image {
+            definitions,
+            shelves,
+            senders,
+            receivers,
+            incarnation: self.incarnation,
+        })
+    }
+
     /// The session that the sender of a channel has hardened, 0 for none.
     pub fn session_of(&self, channel: &ChName) -> u64
         ensures { result ≡ (sender_at channel.now (seen self.now)).session }

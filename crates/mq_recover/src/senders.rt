@@ -5,7 +5,7 @@ ghost use Rattle.mq_sync.specs.Settlement.{sender_or, data_prepared, data_settle
 ghost use Rattle.mq_calls.specs.Reads.{sender_in};
 ghost use Rattle.mq_calls.specs.Changes.{set_sender, off_lists};
 ghost use Rattle.mq_spec_log.specs.Applies.{is_unit_in_doubt};
-ghost use Rattle.mq_recover.specs.Kept.{struck_at, sender_sides};
+ghost use Rattle.mq_recover.specs.Kept.{struck_at, hardened_of, sender_sides};
 
 use crate::kept::Kept;
 use crate::named::ByName;
@@ -46,6 +46,60 @@ fn sides_left(
         })?;
     }
     Ok(found)
+}
+
+fn copy_doubt(alloc: Global, doubt: &Option<InDoubt>) -> Result<Option<InDoubt>, NoMemory>
+    ensures { IfOk result (λ copy. copy ≡ doubt.now) }
+{
+    match doubt {
+        None => Ok(None),
+        Some(doubt) => {
+            let idents = Items::from_slice(alloc, doubt.idents.as_slice())?;
+            Ok(Some(InDoubt {
+                unit: doubt.unit,
+                queue: doubt.queue,
+                idents,
+                last: doubt.last,
+            }))
+        }
+    }
+}
+
+// A copy of what one has hardened, without the idents that were struck.
+fn copy_hardened(
+    alloc: Global,
+    struck: &IndexMap<IdentKey, u64>,
+    kept: &Kept,
+) -> Result<SenderData, NoMemory>
+    ensures { IfOk result (λ hardened. hardened ≡ hardened_of (struck_at struck.now) kept.now) }
+{
+    let doubt = copy_doubt(alloc, &kept.hardened.in_doubt)?;
+    Ok(SenderData {
+        partner: kept.hardened.partner,
+        session: kept.hardened.session,
+        last: kept.hardened.last,
+        force: kept.hardened.force,
+        in_doubt: left_of(struck, kept.since, doubt),
+    })
+}
+
+// Copies of the list of those that are left.
+fn copy_sides(
+    alloc: Global,
+    struck: &IndexMap<IdentKey, u64>,
+    sides: &BTreeMap<ByName, Kept>,
+) -> Result<Items<SenderSide>, NoMemory>
+    ensures { IfOk result (λ copies. copies ≡ sender_sides (struck_at struck.now) sides.now.entries) }
+{
+    let mut copies = Items::new(alloc);
+    for (key, kept) in sides.iter() {
+        let hardened = copy_hardened(alloc, struck, kept)?;
+        copies.push(SenderSide {
+            channel: key.name,
+            hardened,
+        })?;
+    }
+    Ok(copies)
 }
 
 /// What the senders of channels have hardened. Contracts see it as a list in order of the channels' names.
@@ -153,5 +207,12 @@ impl Senders {
     {
         let struck = self.struck;
         sides_left(alloc, &struck, self.sides)
+    }
+
+    /// Copies of all of them.
+    pub fn to_sides(&self, alloc: Global) -> Result<Items<SenderSide>, NoMemory>
+        ensures { IfOk result (λ sides. sides ≡ self.now) }
+    {
+        copy_sides(alloc, &self.struck, &self.sides)
     }
 }

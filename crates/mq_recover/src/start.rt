@@ -1,7 +1,7 @@
 //! Starts of a manager.
 
 /// A first start of a run, or a later one.
-#[derive(Clone, Copy, Debug, PartialEq, Eq)]
+#[derive(Clone, Copy)]
 pub enum Start {
     /// Of a log from before the run: its numbers are below 2^60, so that the run never comes to the end of 64 bits.
     First,

@@ -8,7 +8,7 @@ use mq_codes::Reason;
 use mq_objects::{Defs, LocalQueue, Object, Usage};
 
 /// A transmission queue, and whether the manager's DEFXMITQ gave it.
-#[derive(Clone, Copy, Debug, PartialEq, Eq)]
+#[derive(Clone, Copy)]
 pub struct Way {
     /// The transmission queue's name.
     pub queue: QName,

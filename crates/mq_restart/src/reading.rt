@@ -3,7 +3,7 @@ use mq_calls::RestartFault;
 use mq_log::Found;
 
 /// What the restarts since the stop have read of the log of a manager that is down.
-#[derive(Clone, Copy, Debug, PartialEq, Eq)]
+#[derive(Clone, Copy)]
 pub enum LogRead {
     /// None has read it; so it is while the manager is up.
     Unread,
@@ -14,7 +14,7 @@ pub enum LogRead {
 }
 
 /// How a manager came up.
-#[derive(Clone, Copy, Debug, PartialEq, Eq)]
+#[derive(Clone, Copy)]
 pub enum Returned {
     /// As its history says: with the write that was stopped or without it, behind so many Started records of restarts that were
     /// stopped themselves.
@@ -24,7 +24,7 @@ pub enum Returned {
 }
 
 /// Why a manager did not come up.
-#[derive(Clone, Copy, Debug, PartialEq, Eq)]
+#[derive(Clone, Copy)]
 pub struct Unreturned {
     /// Why.
     pub fault: RestartFault,
@@ -35,7 +35,7 @@ pub struct Unreturned {
 }
 
 /// Why a manager did not come up, and how far it came.
-#[derive(Clone, Copy, Debug, PartialEq, Eq)]
+#[derive(Clone, Copy)]
 pub struct Unraised {
     /// Why.
     pub fault: RestartFault,

@@ -13,6 +13,7 @@ use mq_disk::Disk;
 use mq_log::Found;
 use mq_recover::RecoverFault;
 use mq_restart::{LogRead, Unraised};
+use mq_told::LogTold;
 
 /// What a restart found that came up, and the image of a log that was changed from outside.
 #[derive(Drop)]
@@ -45,11 +46,15 @@ fn unread(fault: RecoverFault, found: Found) -> Unraised
 }
 
 /// A manager comes up from its own log.
-fn come_own<D: Disk>(parts: &mut Parts<D>, found: Found) -> Result<(), Unraised>
+fn come_own<D: Disk>(
+    parts: &mut Parts<D>,
+    told: &mut Option<LogTold>,
+    found: Found,
+) -> Result<(), Unraised>
     requires fresh { IsFresh parts.old.log.max parts.old.log }
     ensures { MatchResult result (λ _. ComesOwn parts.old parts.new) (λ e. StaysOwn found parts.old e parts.new) }
 {
-    let image = match image_of(parts) {
+    let image = match image_of(parts, told) {
         Ok(image) => image,
         Err(fault) => return Err(unread(fault, found)),
     };
@@ -58,16 +63,21 @@ fn come_own<D: Disk>(parts: &mut Parts<D>, found: Found) -> Result<(), Unraised>
 
 /// A manager comes up from a log that was changed from outside, in an incarnation above the first of those that it can't have begun
 /// itself; the image that it took, with the incarnation in front of its own.
-fn come_far<D: Disk>(parts: &mut Parts<D>, found: Found, least: u64) -> Result<Image, Unraised>
+fn come_far<D: Disk>(
+    parts: &mut Parts<D>,
+    told: &mut Option<LogTold>,
+    found: Found,
+    least: u64,
+) -> Result<Image, Unraised>
     requires fresh { IsFresh parts.old.log.max parts.old.log }
     requires low { least + 1 < 2 ^ 61 }
     ensures { MatchResult result (λ i. ComesFar least parts.old i parts.new) (λ e. StaysFar least found parts.old e parts.new) }
 {
-    let image = match image_of(parts) {
+    let image = match image_of(parts, told) {
         Ok(image) => image,
         Err(fault) => return Err(unread(fault, found)),
     };
-    let copy = match image_of(parts) {
+    let copy = match image_of(parts, told) {
         Ok(copy) => copy,
         Err(fault) => return Err(unread(fault, found)),
     };
@@ -84,6 +94,7 @@ fn come_far<D: Disk>(parts: &mut Parts<D>, found: Found, least: u64) -> Result<I
 /// What stopped its disk, the place of the gate at fault, or no memory; and how far it came. All but the log is as it was.
 pub(crate) fn come_back<D: Disk>(
     parts: &mut Parts<D>,
+    told: &mut Option<LogTold>,
     read: LogRead,
     least: u64,
 ) -> Result<Coming, Unraised>
@@ -96,7 +107,7 @@ pub(crate) fn come_back<D: Disk>(
     };
     let length = parts.log.len();
     if is_foreign(read_found(read, found)) {
-        match come_far(parts, found, least) {
+        match come_far(parts, told, found, least) {
             Ok(image) => Ok(Coming {
                 found,
                 length,
@@ -105,7 +116,7 @@ pub(crate) fn come_back<D: Disk>(
             Err(e) => Err(e),
         }
     } else {
-        match come_own(parts, found) {
+        match come_own(parts, told, found) {
             Ok(()) => Ok(Coming {
                 found,
                 length,

@@ -14,7 +14,8 @@ use mq_calls::Image;
 use mq_core::Parts;
 use mq_disk::Disk;
 use mq_log::Log;
-use mq_recover::{RecoverFault, Start, image};
+use mq_recover::RecoverFault;
+use mq_told::{LogTold, image_on};
 use std::alloc::Global;
 
 // (what stands in memory as bytes is bytes)
@@ -27,6 +28,7 @@ fn told_by<D: Disk>(
     alloc: Global,
     number: u8,
     name: &QName,
+    told: &mut Option<LogTold>,
     log: &Log<D>,
 ) -> Result<Image, RecoverFault>
     ensures recovers { Recovers (image (given_by number name.now log.now.max) Later log.now.bodies) result }
@@ -34,18 +36,21 @@ fn told_by<D: Disk>(
 {
     let bodies = log.bodies();
     are_bytes(bodies.framed);
-    image(alloc, number, name, Start::Later, &bodies)
+    image_on(alloc, number, name, told, log)
 }
 
-/// The image that the log of a manager tells.
+/// The image that the log of a manager tells, read on from what it told before.
 ///
 /// # Errors
 ///
 /// The place of the first body that is no record of this manager or doesn't apply. No memory.
-pub(crate) fn image_of<D: Disk>(parts: &Parts<D>) -> Result<Image, RecoverFault>
+pub(crate) fn image_of<D: Disk>(
+    parts: &Parts<D>,
+    told: &mut Option<LogTold>,
+) -> Result<Image, RecoverFault>
     ensures { MatchResult result (λ i. IsToldBy parts.now i) (λ fault. IsUnread (given_of parts.now) Later parts.now.log.bodies fault) }
 {
-    match told_by(parts.alloc, parts.number, &parts.name, &parts.log) {
+    match told_by(parts.alloc, parts.number, &parts.name, told, &parts.log) {
         Ok(image) => Ok(image),
         Err(fault) => Err(fault),
     }

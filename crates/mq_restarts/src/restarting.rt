@@ -17,6 +17,7 @@ use mq_core::Core;
 use mq_disk::Disk;
 use mq_redo::tell_redone;
 use mq_restart::{LogRead, Unreturned};
+use mq_told::LogTold;
 use mq_unit::Effects;
 
 /// How a manager came up.
@@ -66,6 +67,7 @@ fn refused(fault: RestartFault, armed: u32) -> Unreturned
 fn return_from<D: Disk>(
     core: &mut Core<D>,
     read: &mut LogRead,
+    told: &mut Option<LogTold>,
     least: u64,
 ) -> Result<Back, Unreturned>
     requires down { is_up core.old.plain.running ≡ false }
@@ -80,7 +82,7 @@ fn return_from<D: Disk>(
     let length = length_at_stop(&core.parts);
     let armed = cut_left(&core.parts);
     let before = incarnation(&core.parts);
-    let coming = match come_back(&mut core.parts, *read, least) {
+    let coming = match come_back(&mut core.parts, told, *read, least) {
         Ok(coming) => coming,
         Err(e) => {
             fall(&mut core.parts, *read, length, armed, &e);
@@ -123,14 +125,19 @@ fn return_from<D: Disk>(
 
 /// Restarts a manager that is down: it comes up from its log alone, as a first start does. Where the log holds the write that
 /// was stopped, what that did is told. From a log that was changed from outside it goes on in an incarnation that its history
-/// can't have begun, and the image that it took is handed out.
+/// can't have begun, and the image that it took is handed out. What its log tells is kept with its bytes: where those are found again
+/// at its beginning, the bodies behind them alone are read.
 ///
 /// # Errors
 ///
 /// `Up`, where it is up. `Disk`, only where the disk's count rose; `Cut`, at the armed device call; `BadLog`, with the place of the
 /// gate at fault; `NoMemory`, also where a number has become so high that no restart would read it. It is then as before, but that
 /// the calls made count for an armed cut; after `NoMemory` that is armed again as it was.
-pub fn restart<D: Disk>(core: &mut Core<D>, read: &mut LogRead) -> Result<Back, Unreturned>
+pub fn restart<D: Disk>(
+    core: &mut Core<D>,
+    read: &mut LogRead,
+    told: &mut Option<LogTold>,
+) -> Result<Back, Unreturned>
     requires stands { LogStands D.tells read.old core.old.log core.old.plain }
     ensures ends { MatchResult result (λ b. IsBack D.tells core.old.plain b core.new) (λ e. Stayed D.tells core.old.plain core.old.faults e core.new) }
     ensures stands { LogStands D.tells read.new core.new.log core.new.plain }
@@ -148,5 +155,5 @@ pub fn restart<D: Disk>(core: &mut Core<D>, read: &mut LogRead) -> Result<Back, 
         core.effects.clear();
         return Err(refused(RestartFault::NoMemory, armed));
     }
-    return_from(core, read, least)
+    return_from(core, read, told, least)
 }

@@ -3,7 +3,7 @@
 use mq_base::{Items, QName};
 
 /// A text that a rule tests.
-#[derive(Clone, Copy, Debug, PartialEq, Eq)]
+#[derive(Clone, Copy, PartialEq, Eq)]
 pub enum TextField {
     /// APPLIDAT: the descriptor's ApplIdentityData.
     IdentityData,
@@ -24,7 +24,7 @@ pub enum TextField {
 }
 
 /// A number that a rule tests.
-#[derive(Clone, Copy, Debug, PartialEq, Eq)]
+#[derive(Clone, Copy)]
 pub enum NumberField {
     /// APPLTYPE: the descriptor's PutApplType.
     ApplicationType,
@@ -96,7 +96,7 @@ pub struct Rule {
 }
 
 /// How long a handler waits for messages. It is kept and has no effect here (this project's choice).
-#[derive(Clone, Copy, Debug, PartialEq, Eq)]
+#[derive(Clone, Copy, PartialEq, Eq)]
 pub enum Wait {
     /// For ever.
     Yes,

@@ -31,7 +31,7 @@ pub enum RulesFault {
 }
 
 /// What is wrong with an entry.
-#[derive(Clone, Copy, Debug, PartialEq, Eq)]
+#[derive(Clone, Copy)]
 pub enum Flaw {
     /// It isn't a list of KEYWORD(value).
     Form,

@@ -6,7 +6,7 @@ ghost use Rattle.mq_rules_text.specs.Keywords.{text_word, number_word, word, key
 use mq_rules::{NumberField, TextField};
 
 /// A keyword of a rules table.
-#[derive(Clone, Copy, Debug, PartialEq, Eq)]
+#[derive(Clone, Copy)]
 pub enum Keyword {
     /// A text that a rule tests by a pattern.
     Text(TextField),

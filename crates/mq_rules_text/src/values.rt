@@ -11,7 +11,7 @@ use mq_rules::{NumberField, Target, Wait};
 use mq_text::{number, signed};
 
 /// What ACTION says.
-#[derive(Clone, Copy, Debug, PartialEq, Eq)]
+#[derive(Clone, Copy)]
 pub enum Verb {
     Discard,
     Ignore,

@@ -13,7 +13,7 @@ use mq_story::story_of;
 use std::alloc::Global;
 
 /// What is written of a run.
-#[derive(Clone, Copy, Debug, PartialEq, Eq)]
+#[derive(Clone, Copy)]
 pub enum Form {
     /// Its report.
     Report,

@@ -10,7 +10,7 @@ use mq_scn_lines::Limit;
 use mq_scn_text::Cause;
 
 /// Why a line can't stand in a scenario.
-#[derive(Clone, Copy, Debug, PartialEq, Eq)]
+#[derive(Clone, Copy)]
 pub enum BadCause {
     /// By itself, or where it stands.
     Line(Cause),

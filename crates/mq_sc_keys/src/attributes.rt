@@ -10,7 +10,7 @@ use crate::keys::{
 use crate::verbs::Verb;
 
 /// Whose attributes a command names. A channel is of the CHLTYPE that its command gives.
-#[derive(Clone, Copy, Debug, PartialEq, Eq)]
+#[derive(Clone, Copy)]
 pub enum Kind {
     Local,
     Alias,

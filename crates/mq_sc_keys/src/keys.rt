@@ -6,7 +6,7 @@ ghost use Rattle.mq_sc_keys.specs.Keys.{key_text, text_beside_queues, text_witho
 
 /// A keyword of a command behind its object. Source: MQSC reference, DEFINE, ALTER and DISPLAY of
 /// queues, channels, processes and the queue manager.
-#[derive(Clone, Copy, Debug, PartialEq, Eq)]
+#[derive(Clone, Copy)]
 pub enum Key {
     DefPrty,
     DefPsist,

@@ -4,7 +4,7 @@ ghost use Rattle.std.specs.Prelude.{◌≡◌, find, true, Some};
 ghost use Rattle.mq_sc_keys.specs.Verbs.{verb_text, verb_short, object_text, object_short, takes, is_verb, is_object, verb_of, object_of};
 
 /// The first word of a command. Source: MQSC reference.
-#[derive(Clone, Copy, Debug, PartialEq, Eq)]
+#[derive(Clone, Copy)]
 pub enum Verb {
     Define,
     Alter,
@@ -17,7 +17,7 @@ pub enum Verb {
 }
 
 /// What a command is on. Source: MQSC reference.
-#[derive(Clone, Copy, Debug, PartialEq, Eq)]
+#[derive(Clone, Copy)]
 pub enum Noun {
     Local,
     Alias,

@@ -7,7 +7,7 @@ use std::alloc::AllocError;
 use thiserror::Error;
 
 /// Why a text has no commands.
-#[derive(Clone, Copy, Debug, PartialEq, Eq, Error)]
+#[derive(Clone, Copy, Debug, Error)]
 pub enum LexFault {
     /// A quote on this line, counted from 1, is not closed on its command.
     #[error("line {0}: a quote is not closed")]

@@ -10,7 +10,7 @@ use std::alloc::{AllocError, Global};
 use std::mem;
 
 /// A byte of a text, with its place.
-#[derive(Clone, Copy, Debug, PartialEq, Eq)]
+#[derive(Clone, Copy)]
 pub struct Mark {
     pub byte: u8,
     /// The physical line on which it stands, counted from 1.
@@ -22,7 +22,7 @@ pub struct Mark {
 }
 
 /// How a physical line ends.
-#[derive(Clone, Copy, Debug, PartialEq, Eq)]
+#[derive(Clone, Copy, PartialEq, Eq)]
 pub enum Ending {
     /// Its command ends with it.
     Whole,

@@ -9,7 +9,7 @@ use thiserror::Error;
 
 /// Why a line is no command, with the place of the token at fault. The first cause in this order is
 /// told, and of one cause the first place.
-#[derive(Clone, Copy, Debug, PartialEq, Eq, Error)]
+#[derive(Clone, Copy, Debug, Error)]
 pub enum ScFault {
     /// The first word is no verb.
     #[error("unknown verb at {0:?}")]

@@ -141,10 +141,7 @@ fn first_in(word: &[u8]) -> Option<u32>
 fn is_form(read: Result<Fault, LineFault>) -> bool
     ensures { result ≡ is_form read }
 {
-    match read {
-        Ok(_) => false,
-        Err(fault) => fault == LineFault::Form,
-    }
+    matches!(read, Err(LineFault::Form))
 }
 
 /// Whether each word is written as a fault.

@@ -8,7 +8,7 @@ use mq_history::Scenario;
 use mq_scn_lines::{Limit, LineFault};
 
 /// The word with which a part begins.
-#[derive(Clone, Copy, Debug, PartialEq, Eq)]
+#[derive(Clone, Copy)]
 pub enum PartWord {
     Network,
     Moment,
@@ -22,7 +22,7 @@ pub enum PartWord {
 }
 
 /// How far the parts have come.
-#[derive(Clone, Copy, Debug, PartialEq, Eq)]
+#[derive(Clone, Copy, PartialEq, Eq)]
 pub enum Stage {
     /// Nothing was read.
     Start,

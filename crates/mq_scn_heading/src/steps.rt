@@ -13,7 +13,7 @@ use mq_scn_script::command_in;
 use std::alloc::Global;
 
 /// What a step does.
-#[derive(Clone, Copy, Debug, PartialEq, Eq)]
+#[derive(Clone, Copy)]
 pub enum StepVerb {
     Obey,
     Do,

@@ -10,7 +10,7 @@ use std::alloc::AllocError;
 use thiserror::Error;
 
 /// What a scenario has too many of, or which number is outside its limit (this project's limits).
-#[derive(Clone, Copy, Debug, PartialEq, Eq, Error)]
+#[derive(Clone, Copy, Debug, Error)]
 pub enum Limit {
     /// 40,000 lines.
     #[error("Lines")]
@@ -54,7 +54,7 @@ pub enum Limit {
 }
 
 /// Why a text is none of MQSC commands.
-#[derive(Clone, Copy, Debug, PartialEq, Eq, Error)]
+#[derive(Clone, Copy, Debug, Error)]
 pub enum MqscFault {
     /// A quote isn't closed on its command.
     #[error("OpenQuote")]
@@ -67,7 +67,7 @@ pub enum MqscFault {
 }
 
 /// Why a line can't stand in a scenario, wherever it stands.
-#[derive(Clone, Copy, Debug, PartialEq, Eq)]
+#[derive(Clone, Copy)]
 pub enum LineFault {
     NoMemory,
     /// It isn't written as any line that may stand there.

@@ -7,7 +7,7 @@ ghost use Rattle.mq_scn_lines.specs.Options.{option_word, has_value, group_of, s
 use crate::operands::bracketed;
 
 /// An option of a script's line.
-#[derive(Clone, Copy, Debug, PartialEq, Eq)]
+#[derive(Clone, Copy)]
 pub enum LineOption {
     Sync,
     Priority,

@@ -4,7 +4,7 @@ ghost use Rattle.std.specs.Prelude.{◌≡◌};
 ghost use Rattle.mq_scn_script.specs.Verbs.{verb_word, verb_of};
 
 /// What a line of a script does.
-#[derive(Clone, Copy, Debug, PartialEq, Eq)]
+#[derive(Clone, Copy)]
 pub enum ScriptVerb {
     Mqconn,
     Mqdisc,

@@ -11,7 +11,7 @@ use std::alloc::AllocError;
 use thiserror::Error;
 
 /// Why a line can't stand in a scenario.
-#[derive(Clone, Copy, Debug, PartialEq, Eq, Error)]
+#[derive(Clone, Copy, Debug, Error)]
 pub enum Cause {
     /// It isn't written as any line that may stand there.
     #[error("Form")]
@@ -43,7 +43,7 @@ pub enum Cause {
 }
 
 /// Why a text is read as no scenario: the first line that can't stand in one, counted from 1.
-#[derive(Clone, Copy, Debug, PartialEq, Eq, Error)]
+#[derive(Clone, Copy, Debug, Error)]
 pub enum ScenarioFault {
     /// The line at fault, and why.
     #[error("line {0}: {1}")]

@@ -8,7 +8,7 @@ ghost use Rattle.mq_sender.specs.States.{kept_of};
 use mq_sync::{Doubt, InDoubt, SenderData};
 
 /// What a running sender has of its hardened data.
-#[derive(Clone, Copy, Debug, PartialEq, Eq)]
+#[derive(Clone, Copy)]
 pub struct Kept {
     /// The session it is in, counted from 1; 0 before the first.
     pub session: u64,
@@ -21,7 +21,7 @@ pub struct Kept {
 }
 
 /// BATCHSZ, SEQWRAP and SHORTRTY of the channel's definition, which stand while the channel runs.
-#[derive(Clone, Copy, Debug, PartialEq, Eq)]
+#[derive(Clone, Copy)]
 pub struct Limits {
     /// BATCHSZ: how many messages a unit has at most, 1 to 9,999.
     pub batch_size: u32,
@@ -32,7 +32,7 @@ pub struct Limits {
 }
 
 /// Why a sender is stopped.
-#[derive(Clone, Copy, Debug, PartialEq, Eq)]
+#[derive(Clone, Copy, PartialEq, Eq)]
 pub enum StopCause {
     /// An operator's STOP.
     Operator,
@@ -45,7 +45,7 @@ pub enum StopCause {
 }
 
 /// Where a sender stands.
-#[derive(Clone, Copy, Debug, PartialEq, Eq)]
+#[derive(Clone, Copy, PartialEq, Eq)]
 pub enum SenderState {
     /// Not started since its manager started, or its manager has stopped.
     Inactive,
@@ -67,7 +67,7 @@ pub enum SenderState {
 }
 
 /// A sender.
-#[derive(Clone, Copy, Debug, PartialEq, Eq)]
+#[derive(Clone, Copy)]
 pub struct Sender {
     pub state: SenderState,
     /// The timeouts since the last STATUS that was awaited, at most SHORTRTY.

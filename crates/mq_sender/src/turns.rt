@@ -3,7 +3,7 @@
 use mq_sync::Settle;
 
 /// What a sender's turn does.
-#[derive(Clone, Copy, Debug, PartialEq, Eq)]
+#[derive(Clone, Copy, PartialEq, Eq)]
 pub enum SenderDoes {
     /// Nothing; no item waits.
     Still,
@@ -42,7 +42,7 @@ pub enum SenderDoes {
 }
 
 /// What came of a turn.
-#[derive(Clone, Copy, Debug, PartialEq, Eq)]
+#[derive(Clone, Copy)]
 pub enum SenderOut {
     Done,
     /// The cable refused the push.

@@ -1,13 +1,13 @@
 -- What came out of the locks of a phase is what the phase tells.
-use Rattle.std.proofs.Common.{◌≡◌, ◌≢◌, ℕ, ◌<◌, ◌≤◌, true, false, List, [], ◌∷◌, ◌++◌, drop, length, refl, sym, ap, subst, ◌∙◌, append_assoc, append-nil, inl, inr, arith}
-use Rattle.std.specs.Prelude.{◌⊎◌, Option, Some, map, slice_get}
+use Rattle.std.proofs.Common.{◌≡◌, ◌≢◌, ℕ, zero, suc, ◌<◌, ◌≤◌, true, false, List, [], ◌∷◌, ◌++◌, drop, length, refl, sym, ap, subst, ◌∙◌, append_assoc, append-nil, inl, inr, arith}
+use Rattle.std.specs.Prelude.{◌⊎◌, Option, Some, None, map, slice_get}
 use Rattle.mq_base.specs.Members.{Mem}
 use Rattle.mq_history.specs.declared.calls.Actor.{Actor}
 use Rattle.mq_history.specs.declared.calls.Actor.TheVariants as actors
 use Rattle.mq_history.specs.declared.calls.Call.TheVariants as calls
 use Rattle.mq_history.specs.declared.scenario.CableLine.{CableLine}
 use Rattle.mq_spec_node.specs.Terms.{Entry, ScriptLine, ScriptPart}
-use Rattle.mq_spec_node.specs.Words.{is_receiver, is_script, is_sender, is_trigger, left_after}
+use Rattle.mq_spec_node.specs.Words.{deadline, deadline_kept, is_receiver, is_script, is_sender, is_trigger, left_after, wait_of}
 use Rattle.mq_spec_network.specs.Steps.{AllInPhase, InPhase, PhaseLine}
 use Rattle.mq_spec_network.specs.Tasks.{Trying}
 use Rattle.mq_progress.specs.Course.{Course, Stands}
@@ -17,10 +17,11 @@ use Rattle.mq_events.specs.States.{NodeState, value_of}
 use Rattle.mq_split.specs.Facing.{AreJoined, Facing}
 use Rattle.mq_split.specs.Took.{EndState}
 use Rattle.mq_split.specs.Ends.{IsEndAt, end_name}
-use Rattle.mq_shared.specs.Held.{Begun, IsScriptIn, ScriptState, cables_begun, entries_begun, entries_or}
+use Rattle.mq_nodes.specs.Told.{KeptSo, first_until}
+use Rattle.mq_shared.specs.Held.{Begun, IsScriptIn, ScriptState, TriedSo, cables_begun, entries_begun, entries_or}
 use Rattle.mq_split.specs.Parting.{AreEnds, AreEndsAt, IsAmong, ends_named}
 use Rattle.mq_shared.specs.Phasing.{IsCourse, NodeRan, entries_in}
-use Rattle.mq_shared.specs.Sharing.{rested}
+use Rattle.mq_shared.specs.Sharing.{course_then, until_of}
 use Rattle.mq_shared.specs.Taking.{AreOut, IsOut, since_of}
 use Rattle.mq_shared.proofs.KeptLaws.{grown_entries}
 use Rattle.mq_shared.proofs.LineKept.{other_script}
@@ -86,9 +87,30 @@ joined_on b ns rows lines cables same out among joined k l c at way = record {
         from : (n : NodeState) × (slice_get ns m ≡ Some n) → (es : List EndState) × (slice_get rows m ≡ Some es) → entries_begun b m ++ since_of b ns m ≡ entries_in ns m
         from (n, is) (es, row) = sym (out_entries b ns m n es is (out m n es is row))
 
--- THE SCRIPTS
-pub course_back : (b : Begun) (m : ℕ) (es : List Entry) (s : ScriptState) → IsScriptIn b m es s → IsCourse s.script s.part es (rested s.course)
-course_back b m es s h = record { stands = record { memory = h.stands.memory; done = h.stands.done }; few = h.few; rests = refl }
+-- THE SCRIPTS: a line's deadline is kept from the moment of its first try
+kept_line : (moment : ℕ) (l : ScriptLine) (until : Option ℕ) → TriedSo moment l until → deadline_kept until moment (wait_of l) ≡ deadline moment (wait_of l)
+kept_line moment l until (inl e) = ap (λ (u : Option ℕ). deadline_kept u moment (wait_of l)) e
+kept_line moment l until (inr e) = ap (λ (u : Option ℕ). deadline_kept u moment (wait_of l)) e ∙ again (wait_of l)
+  where
+    again : (wait : Option ℕ) → deadline_kept (deadline moment wait) moment wait ≡ deadline moment wait
+    again None = refl
+    again (Some w) = refl
+
+pub first_is : (moment : ℕ) (l : ScriptLine) (n : ℕ) (ls : List ScriptLine) → slice_get ls n ≡ Some l → first_until moment (drop n ls) ≡ deadline moment (wait_of l)
+first_is moment l n [] h = absurd cc
+first_is moment l zero (x ∷ ls) h = ap (λ (o : Option ScriptLine). line_until moment o) h
+  where
+    line_until : ℕ → Option ScriptLine → Option ℕ
+    line_until t None = None
+    line_until t (Some y) = deadline t (wait_of y)
+first_is moment l (suc n) (x ∷ ls) h = first_is moment l n ls h
+
+pub course_back : (b : Begun) (m : ℕ) (es : List Entry) (s : ScriptState) → IsScriptIn b m es s → IsCourse (Some s.moment) s.script s.part es (course_then s)
+course_back b m es s h = record { stands = record { memory = h.stands.memory; done = h.stands.done }; few = h.few; rests = kept_at (slice_get s.part.lines s.course.done) refl }
+  where
+    kept_at : (o : Option ScriptLine) → slice_get s.part.lines s.course.done ≡ o → KeptSo (Some s.moment) (drop s.course.done s.part.lines) (until_of s.course s.moment (slice_get s.part.lines s.course.done))
+    kept_at None at = inl (ap (until_of s.course s.moment) at)
+    kept_at (Some l) at = inr (ap (until_of s.course s.moment) at ∙ kept_line s.moment l s.course.until (h.tried l at) ∙ sym (first_is s.moment l s.course.done s.part.lines at))
 
 -- and one that is none of the phase stands where it stood
 line_script : (j : ℕ) (t : Trying) (done : List Entry) (ls : List ScriptLine) (m : ℕ) (e : Entry) → PhaseLine j t done ls m e → t.script ≡ j
@@ -113,5 +135,5 @@ none_stands ts m k p c done (e ∷ es) others h at =
     other (inl i) = inl (not_script ts m k done e e.actor others i)
     other (inr t) = inr (ap is_trigger t)
 
-pub course_stays : (ts : List Trying) (m k : ℕ) (p : ScriptPart) (es since : List Entry) (c : Course) → AllInPhase ts m es since → ((t : Trying) → Mem t ts → t.script ≢ k) → IsCourse k p es c → IsCourse k p (es ++ since) c
+pub course_stays : (ts : List Trying) (m k : ℕ) (p : ScriptPart) (es since : List Entry) (c : Course) → AllInPhase ts m es since → ((t : Trying) → Mem t ts → t.script ≢ k) → IsCourse None k p es c → IsCourse None k p (es ++ since) c
 course_stays ts m k p es since c h others is = record { stands = none_stands ts m k p c es since others h is.stands; few = is.few; rests = is.rests }

@@ -1,6 +1,6 @@
 -- A phase over open directions: what its parts ask of one another.
 use Rattle.std.proofs.Common.{◌≡◌, ℕ, ◌≤◌, List, [], ◌∷◌, ◌++◌, length, refl, sym, ap, subst, ◌∙◌, arith}
-use Rattle.std.specs.Prelude.{Some, Result, slice_get}
+use Rattle.std.specs.Prelude.{Some, None, Result, slice_get}
 use Rattle.mq_history.specs.declared.scenario.CableLine.{CableLine}
 use Rattle.mq_history.specs.declared.scenario.Scenario.{Scenario}
 use Rattle.mq_spec_node.specs.Terms.{Entry}
@@ -54,7 +54,7 @@ module _ (s : Scenario) (ks : List ℕ) (ns : List NodeState) (cs : List Course)
 
   pub courses_over : (n : ℕ) → CoursesBelow (record { scenario = s; scripts = ks }) b n cs
   courses_over n m lt k p c part at mine =
-      subst (λ (d : List Entry). IsCourse k p d c) (ap (entries_in ns) mine ∙ sym (ap (λ (x : Begun). entries_or (slice_get x.nodes m)) is)) (may.courses k p c part at)
+      subst (λ (d : List Entry). IsCourse None k p d c) (ap (entries_in ns) mine ∙ sym (ap (λ (x : Begun). entries_or (slice_get x.nodes m)) is)) (may.courses k p c part at)
 
   pub among_over : (ls : List CableLine) (n : ℕ) → ls ≡ s.cables → n ≡ length ns → EachIs (IsAmong n) ls
   among_over ls n lines count = subst (λ (l : List CableLine). EachIs (IsAmong n) l) (sym lines) (cables_among s ks ns cs ws n may (sym count))
@@ -79,9 +79,9 @@ module _ (s : Scenario) (ks : List ℕ) (ns : List NodeState) (cs : List Course)
   own_over now own = own_out s ks ns ws cs (outs_of ps) (backs_of ps) may now (subst (λ (x : Begun). OwnOut x now) is own)
 
   pub ran_over : (q : Asked) (ls : List CableLine) (now : List NodeState) (rows : List (List EndState)) (mid ds : List Course) (last : List CableState) (r : Result (Unit {0}) Stop) → q ≡ record { scenario = s; scripts = ks } → ls ≡ s.cables → length now ≡ length ns → length rows ≡ length ns → AreOut b now rows
-      → length ds ≡ length cs → OthersStay (record { scenario = s; scripts = ks }) cs mid → OthersStay q mid ds → AreBack q now ds → length last ≡ length ws → AreJoined ls (λ (m : ℕ). entries_begun b m ++ since_of b now m) last → PhaseEnds r now → PhaseRan s ks ns r now ds last
+      → length ds ≡ length cs → OthersStay (record { scenario = s; scripts = ks }) cs mid → OthersStay q mid ds → AreBack q b now ds → length last ≡ length ws → AreJoined ls (λ (m : ℕ). entries_begun b m ++ since_of b now m) last → PhaseEnds r now → PhaseRan s ks ns r now ds last
   ran_over q ls now rows mid ds last r asked lines count count_rows out long went came back cables joined ends =
       all_ran s ks ns ws cs (outs_of ps) (backs_of ps) may now rows count count_rows (subst (λ (x : Begun). AreOut x now rows) is out) mid ds last r long went
-      (subst (λ (x : Asked). OthersStay x mid ds) asked came) (subst (λ (x : Asked). AreBack x now ds) asked back) cables
+      (subst (λ (x : Asked). OthersStay x mid ds) asked came) (subst (λ (x : Begun). AreBack (record { scenario = s; scripts = ks }) x now ds) is (subst (λ (x : Asked). AreBack x b now ds) asked back)) cables
       (subst (λ (x : Begun). AreJoined s.cables (λ (m : ℕ). entries_begun x m ++ since_of x now m) last) is (subst (λ (l : List CableLine). AreJoined l (λ (m : ℕ). entries_begun b m ++ since_of b now m) last) lines joined))
       ends

@@ -1,6 +1,6 @@
 -- A phase that ran, and one that did nothing.
-use Rattle.std.proofs.Common.{◌≡◌, ℕ, ◌≤◌, ◌<◌, Bool, true, false, List, [], ◌++◌, length, refl, sym, ap, subst, ◌∙◌, append-nil, ⊎_elim, arith}
-use Rattle.std.specs.Prelude.{Some, Result, Ok, Err, slice_get}
+use Rattle.std.proofs.Common.{◌≡◌, ℕ, ◌≤◌, ◌<◌, Bool, true, false, List, [], ◌++◌, length, refl, sym, ap, subst, ◌∙◌, append-nil, inl, ⊎_elim, arith}
+use Rattle.std.specs.Prelude.{Some, None, Result, Ok, Err, slice_get}
 use Rattle.atomic_table.specs.Seated.{TableId}
 use Rattle.mq_base.specs.Members.{Mem}
 use Rattle.mq_history.specs.Scenarios.{IsCable}
@@ -18,14 +18,18 @@ use Rattle.mq_split.specs.Took.{EndState}
 use Rattle.mq_split.specs.Ends.{EachIs}
 use Rattle.mq_shared.specs.Held.{Begun, cables_begun, entries_begun, entries_or}
 use Rattle.mq_split.specs.Parting.{AreEnds, IsAmong, ends_named}
-use Rattle.mq_shared.specs.Phasing.{IsCourse, MayPhase, NodeRan, PhaseEnds, PhaseOwn, PhaseRan, ShortBehind, entries_in, tries_in}
-use Rattle.mq_shared.specs.Sharing.{among, begun_with}
+use Rattle.mq_shared.specs.Phasing.{AreLeft, IsCourse, MayPhase, NodeRan, PhaseEnds, PhaseOwn, PhaseRan, ShortBehind, among, entries_in, if_among, moment_or, tries_in}
+use Rattle.mq_shared.specs.Sharing.{begun_with}
 use Rattle.mq_shared.specs.Taking.{AreBack, AreOut, Asked, Begins, IsOut, OthersStay, OwnOut, since_of}
 use Rattle.mq_shared.proofs.OutLaws.{course_stays, joined_on, others_none, out_ends, out_entries, out_ran}
 use Rattle.mq_shared.proofs.ShareLists.{at_it, less, mem_any, some_is, there, true_or_false}
 use Rattle.mq_shared.proofs.ShareLaws.{by_at, mem_try}
 
--- NOTHING WAS DONE
+-- NOTHING WAS DONE: where no get waits, none that was tried has another deadline
+left_so : (b : Bool) (moment k : ℕ) (p : ScriptPart) (es : List Entry) (c : Course) → IsCourse None k p es c → IsCourse (if_among b moment) k p es c
+left_so true moment k p es c i = record { stands = i.stands; few = i.few; rests = inl i.rests }
+left_so false moment k p es c i = i
+
 pub nothing_ran : (s : Scenario) (ks : List ℕ) (ns : List NodeState) (cs : List Course) (ws : List CableState) (r : Result (Unit {0}) Stop) → MayPhase s ks ns cs ws → PhaseEnds r ns → PhaseRan s ks ns r ns cs ws
 nothing_ran s ks ns cs ws r may ends = record {
   since = λ m. [];
@@ -33,7 +37,7 @@ nothing_ran s ks ns cs ws r may ends = record {
   managers = refl;
   nodes = λ m n new at again. let same : n ≡ new = some_is n new (sym at ∙ again) in subst (NodeRan (tries_in s ns ks) m [] n) same (stays m n at);
   scripts = may.scripts;
-  courses = may.courses;
+  courses = λ k p c part at. left_so (among ks k) (moment_or (slice_get ns p.manager)) k p (entries_in ns p.manager) c (may.courses k p c part at);
   cables = may.cables;
   ways = may.ways;
   ends = ends;
@@ -90,7 +94,7 @@ module _ (s : Scenario) (ks : List ℕ) (old : List NodeState) (was : List Cable
     ran_at m n new at now = let r = row_of m new now in out_ran begun ns m n new r.0 at now (out m new r.0 now r.1)
 
     -- a script that was not asked
-    stays_at : (k : ℕ) (p : ScriptPart) (c : Course) → slice_get s.scripts k ≡ Some p → among ks k ≡ false → IsCourse k p (entries_in old p.manager) c → IsCourse k p (entries_in ns p.manager) c
+    stays_at : (k : ℕ) (p : ScriptPart) (c : Course) → slice_get s.scripts k ≡ Some p → among ks k ≡ false → IsCourse None k p (entries_in old p.manager) c → IsCourse None k p (entries_in ns p.manager) c
     stays_at k p c part none course =
         let mine : (p.manager < length s.managers) × (length p.lines ≤ 25000) = at_it (λ (q : ScriptPart). (q.manager < length s.managers) × (length q.lines ≤ 25000)) s.scripts k p may.scenario.scripts part in
         let here = mine.0 in
@@ -99,22 +103,22 @@ module _ (s : Scenario) (ks : List ℕ) (old : List NodeState) (was : List Cable
         let r = row_of p.manager y.0 y.1 in
         let is : IsOut begun p.manager y.0 r.0 = out p.manager y.0 r.0 y.1 r.1 in
         let begun_at : entries_in old p.manager ≡ x.0.history.entries = ap entries_or x.1 in
-        subst (λ (d : List Entry). IsCourse k p d c) (sym (out_entries begun ns p.manager y.0 r.0 y.1 is))
-        (subst (λ (d : List Entry). IsCourse k p (d ++ since_of begun ns p.manager) c) (sym begun_at)
+        subst (λ (d : List Entry). IsCourse None k p d c) (sym (out_entries begun ns p.manager y.0 r.0 y.1 is))
+        (subst (λ (d : List Entry). IsCourse None k p (d ++ since_of begun ns p.manager) c) (sym begun_at)
         (course_stays (tries_in s old ks) p.manager k p x.0.history.entries (since_of begun ns p.manager) c (ran_at p.manager x.0 y.0 x.1 y.1).phased
         (λ t member same. clash (mem_any ks k (subst (λ (i : ℕ). Mem i ks) same (mem_try s old ks t member).1)) none)
-        (subst (λ (d : List Entry). IsCourse k p d c) begun_at course)))
+        (subst (λ (d : List Entry). IsCourse None k p d c) begun_at course)))
       where
         clash : {b : Bool} → b ≡ true → b ≡ false → ⊥
         clash e f = absurd (let h = sym e ∙ f in cc)
 
-    courses_out : (cs ds : List Course) → OthersStay asked first cs → OthersStay asked cs ds → AreBack asked ns ds → (k : ℕ) (p : ScriptPart) (c : Course) → slice_get s.scripts k ≡ Some p → slice_get ds k ≡ Some c → IsCourse k p (entries_in ns p.manager) c
+    courses_out : (cs ds : List Course) → OthersStay asked first cs → OthersStay asked cs ds → AreBack asked begun ns ds → AreLeft s ks old ns ds
     courses_out cs ds went came back k p c part at = ⊎_elim
-        (λ (e : among ks k ≡ true). back k p c part e (let mine = at_it (λ (q : ScriptPart). (q.manager < length s.managers) × (length q.lines ≤ 25000)) s.scripts k p may.scenario.scripts part in let here = mine.0 in omega (arith, here, count, may.managers)) at)
-        (λ (e : among ks k ≡ false). stays_at k p c part e (may.courses k p c part (sym (went k e) ∙ sym (came k e) ∙ at)))
+        (λ (e : among ks k ≡ true). subst (λ (b : Bool). IsCourse (if_among b (moment_or (slice_get old p.manager))) k p (entries_in ns p.manager) c) (sym e) (back k p c part e (let mine = at_it (λ (q : ScriptPart). (q.manager < length s.managers) × (length q.lines ≤ 25000)) s.scripts k p may.scenario.scripts part in let here = mine.0 in omega (arith, here, count, may.managers)) at))
+        (λ (e : among ks k ≡ false). subst (λ (b : Bool). IsCourse (if_among b (moment_or (slice_get old p.manager))) k p (entries_in ns p.manager) c) (sym e) (stays_at k p c part e (may.courses k p c part (sym (went k e) ∙ sym (came k e) ∙ at))))
         (true_or_false (among ks k))
 
-    pub all_ran : (cs ds : List Course) (ws : List CableState) (r : Result (Unit {0}) Stop) → length ds ≡ length first → OthersStay asked first cs → OthersStay asked cs ds → AreBack asked ns ds → length ws ≡ length was
+    pub all_ran : (cs ds : List Course) (ws : List CableState) (r : Result (Unit {0}) Stop) → length ds ≡ length first → OthersStay asked first cs → OthersStay asked cs ds → AreBack asked begun ns ds → length ws ≡ length was
         → AreJoined s.cables (λ (m : ℕ). entries_begun begun m ++ since_of begun ns m) ws → PhaseEnds r ns → PhaseRan s ks old r ns ds ws
     all_ran cs ds ws r long went came back cables joined ends = record {
       since = since_of begun ns;

@@ -10,8 +10,8 @@ use Rattle.mq_progress.specs.Course.{Course}
 use Rattle.mq_events.specs.States.{NodeState}
 use Rattle.mq_split.specs.Ends.{EachIs}
 use Rattle.mq_shared.specs.Held.{Begun, IsScriptIn, ScriptState, ScriptsApart, entries_begun, script_name}
-use Rattle.mq_shared.specs.Phasing.{moment_or, tries_in, tries_one}
-use Rattle.mq_shared.specs.Sharing.{among, by_manager, first_if, is_here, last_if, named_from, out_if, put_all, rested, unbegun}
+use Rattle.mq_shared.specs.Phasing.{among, moment_or, tries_in, tries_one}
+use Rattle.mq_shared.specs.Sharing.{by_manager, course_then, first_if, is_here, last_if, named_from, out_if, put_all, unbegun}
 use Rattle.mq_shared.specs.Taking.{Asked, Begins, CoursesAt}
 use Rattle.mq_shared.proofs.ShareLists.{any_mem, are_same, at_front, at_it, at_more, both_so, drop_one, last_at, long_more, map_at, map_more, mem_either, mem_right, set_here, set_long, set_other, some_is, true_or_false}
 
@@ -39,6 +39,19 @@ mem_try s ns [] t h = absurd h
 mem_try s ns (k ∷ ks) t h = ⊎_elim
     (λ (p : Mem t (tries_one ns k (slice_get s.scripts k))). let r = one_try s ns t k (slice_get s.scripts k) refl p in (r.0, inl r.1))
     (λ (p : Mem t (tries_in s ns ks)). let r = mem_try s ns ks t p in (r.0, inr r.1))
+    (mem_either t (tries_one ns k (slice_get s.scripts k)) (tries_in s ns ks) h)
+
+-- and has the moment with which the phase began there
+moment_one : (ns : List NodeState) (t : Trying) (k : ℕ) (o : Option ScriptPart) → Mem t (tries_one ns k o) → t.moment ≡ moment_or (slice_get ns t.part.manager)
+moment_one ns t k None h = absurd h
+moment_one ns t k (Some p) (inl e) = ap (λ (x : Trying). x.moment) e ∙ ap (λ (x : Trying). moment_or (slice_get ns x.part.manager)) (sym e)
+moment_one ns t k (Some p) (inr h) = absurd h
+
+pub moment_try : (s : Scenario) (ns : List NodeState) (ks : List ℕ) (t : Trying) → Mem t (tries_in s ns ks) → t.moment ≡ moment_or (slice_get ns t.part.manager)
+moment_try s ns [] t h = absurd h
+moment_try s ns (k ∷ ks) t h = ⊎_elim
+    (λ (p : Mem t (tries_one ns k (slice_get s.scripts k))). moment_one ns t k (slice_get s.scripts k) p)
+    (λ (p : Mem t (tries_in s ns ks)). moment_try s ns ks t p)
     (mem_either t (tries_one ns k (slice_get s.scripts k)) (tries_in s ns ks) h)
 
 -- THE SCRIPTS OF A MANAGER
@@ -105,17 +118,17 @@ by_at f (suc n) m lt = ⊎_elim
     under a b h e = grind (arith, nat_tests)
 
 -- BACK IN THEIR PLACES
-pub put_last : (ss : List ScriptState) (s : ScriptState) (cs : List Course) → put_all (ss ++ s ∷ []) cs ≡ put_all ss (slice_set cs s.script (rested s.course))
+pub put_last : (ss : List ScriptState) (s : ScriptState) (cs : List Course) → put_all (ss ++ s ∷ []) cs ≡ put_all ss (slice_set cs s.script (course_then s))
 put_last [] s cs = refl
-put_last (t ∷ ts) s cs = ap (λ (l : List Course). slice_set l t.script (rested t.course)) (put_last ts s cs)
+put_last (t ∷ ts) s cs = ap (λ (l : List Course). slice_set l t.script (course_then t)) (put_last ts s cs)
 
 pub put_long : (ss : List ScriptState) (cs : List Course) → length (put_all ss cs) ≡ length cs
 put_long [] cs = refl
-put_long (s ∷ ss) cs = set_long (put_all ss cs) s.script (rested s.course) ∙ put_long ss cs
+put_long (s ∷ ss) cs = set_long (put_all ss cs) s.script (course_then s) ∙ put_long ss cs
 
 pub put_other : (ss : List ScriptState) (cs : List Course) (k : ℕ) → (Mem k (map script_name ss) → ⊥) → slice_get (put_all ss cs) k ≡ slice_get cs k
 put_other [] cs k h = refl
-put_other (s ∷ ss) cs k h = set_other (put_all ss cs) s.script k (rested s.course) (λ e. h (inl e)) ∙ put_other ss cs k (λ p. h (inr p))
+put_other (s ∷ ss) cs k h = set_other (put_all ss cs) s.script k (course_then s) (λ e. h (inl e)) ∙ put_other ss cs k (λ p. h (inr p))
 
 apart_rest : (s : ScriptState) (ss : List ScriptState) → ScriptsApart (s ∷ ss) → ScriptsApart ss
 apart_rest s ss h i j t u e f same = down i j (h (suc i) (suc j) t u e f same)
@@ -123,15 +136,15 @@ apart_rest s ss h i j t u e f same = down i j (h (suc i) (suc j) t u e f same)
     down : (a b : ℕ) → suc a ≡ suc b → a ≡ b
     down a b e = omega (arith, e)
 
-pub put_here : (ss : List ScriptState) (cs : List Course) (i : ℕ) (s : ScriptState) → ScriptsApart ss → s.script < length cs → slice_get ss i ≡ Some s → slice_get (put_all ss cs) s.script ≡ Some (rested s.course)
+pub put_here : (ss : List ScriptState) (cs : List Course) (i : ℕ) (s : ScriptState) → ScriptsApart ss → s.script < length cs → slice_get ss i ≡ Some s → slice_get (put_all ss cs) s.script ≡ Some (course_then s)
 put_here [] cs i s apart lt e = absurd cc
 put_here (t ∷ ts) cs zero s apart lt e =
     let is : t ≡ s = some_is t s e in
-    ap (λ (k : ℕ). slice_get (slice_set (put_all ts cs) t.script (rested t.course)) k) (ap (λ (x : ScriptState). x.script) (sym is))
-    ∙ set_here (put_all ts cs) t.script (rested t.course) (let long = put_long ts cs in let same = ap (λ (x : ScriptState). x.script) is in omega (arith, lt, long, same))
-    ∙ ap Some (ap (λ (x : ScriptState). rested x.course) is)
+    ap (λ (k : ℕ). slice_get (slice_set (put_all ts cs) t.script (course_then t)) k) (ap (λ (x : ScriptState). x.script) (sym is))
+    ∙ set_here (put_all ts cs) t.script (course_then t) (let long = put_long ts cs in let same = ap (λ (x : ScriptState). x.script) is in omega (arith, lt, long, same))
+    ∙ ap Some (ap (λ (x : ScriptState). course_then x) is)
 put_here (t ∷ ts) cs (suc i) s apart lt e =
-    set_other (put_all ts cs) t.script s.script (rested t.course) (λ same. none i (apart (suc i) 0 s t e refl same))
+    set_other (put_all ts cs) t.script s.script (course_then t) (λ same. none i (apart (suc i) 0 s t e refl same))
     ∙ put_here ts cs i s (apart_rest t ts apart) lt e
   where
     none : (n : ℕ) → suc n ≡ 0 → ⊥
@@ -206,6 +219,6 @@ script_in a b m k moment p c cs old begins now courses is at ahead here =
     }
 
 -- one script is back
-pub put_step : (held rest : List ScriptState) (s : ScriptState) (cs ds all : List Course) → held ≡ rest ++ s ∷ [] → ds ≡ slice_set cs s.script (rested s.course) → put_all held cs ≡ all → put_all rest ds ≡ all
+pub put_step : (held rest : List ScriptState) (s : ScriptState) (cs ds all : List Course) → held ≡ rest ++ s ∷ [] → ds ≡ slice_set cs s.script (course_then s) → put_all held cs ≡ all → put_all rest ds ≡ all
 put_step held rest s cs ds all popped set so_far =
     ap (put_all rest) set ∙ sym (put_last rest s cs) ∙ ap (λ (l : List ScriptState). put_all l cs) (sym popped) ∙ so_far

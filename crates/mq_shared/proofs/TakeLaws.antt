@@ -12,14 +12,14 @@ use Rattle.mq_split.specs.Took.{EndState}
 use Rattle.mq_split.specs.Ends.{AreFree, EachIs, EndsApart}
 use Rattle.mq_shared.specs.Held.{Begun, IsScriptIn, Kept, ScriptState, cables_begun, entries_begun, entries_or, script_name}
 use Rattle.mq_split.specs.Parting.{AllFree, AreEndsAt, ends_named, none_since}
-use Rattle.mq_shared.specs.Phasing.{IsCourse, entries_in}
-use Rattle.mq_shared.specs.Sharing.{among, is_here, named, named_from, put_all, rested}
+use Rattle.mq_shared.specs.Phasing.{IsCourse, among, entries_in, moment_or}
+use Rattle.mq_shared.specs.Sharing.{course_then, is_here, named, named_from, put_all}
 use Rattle.mq_shared.specs.Taking.{AreBack, AreDone, AreOut, Asked, Begins, CoursesBelow, IsOut, OthersStay, OwnOut}
 use Rattle.mq_shared.proofs.KeptLaws.{grown_entries}
 use Rattle.mq_shared.proofs.BegunLaws.{kept_begun}
 use Rattle.mq_shared.proofs.OutLaws.{course_back}
 use Rattle.mq_shared.proofs.ShareLists.{are_same, at_front, at_more, itself, last_at, less, long_more, mem_any, mem_at, past, so_both, some_is, there, true_or_false, under_or_not}
-use Rattle.mq_shared.proofs.ShareLaws.{begins_tries, by_at, mem_try, named_has, put_here, put_other, scripts_apart}
+use Rattle.mq_shared.proofs.ShareLaws.{begins_tries, by_at, mem_try, moment_try, named_has, put_here, put_other, scripts_apart}
 
 -- PLACES
 pub each_more : {A : Type 0} (P : ℕ → A → Type 0) (xs ys : List A) (x : A) → ys ≡ xs ++ x ∷ [] → P (length xs) x → ((m : ℕ) (y : A) → slice_get xs m ≡ Some y → P m y) → (m : ℕ) (y : A) → slice_get ys m ≡ Some y → P m y
@@ -77,6 +77,13 @@ module _ (a : Asked) (b : Begun) (m : ℕ) (n : NodeState) (es : List EndState) 
   asked_of i s at = mem_try a.scenario b.nodes a.scripts (record { script = s.script; part = s.part; moment = s.moment })
       (subst (λ (ts : List Trying). Mem (record { script = s.script; part = s.part; moment = s.moment }) ts) (begins_tries a b begins) (kept.scripts i s at).among)
 
+  -- its moment is that of the manager at the phase's beginning
+  moment_of_it : (i : ℕ) (s : ScriptState) → slice_get ss i ≡ Some s → s.moment ≡ moment_or (slice_get b.nodes m)
+  moment_of_it i s at =
+      moment_try a.scenario b.nodes a.scripts (record { script = s.script; part = s.part; moment = s.moment })
+      (subst (λ (ts : List Trying). Mem (record { script = s.script; part = s.part; moment = s.moment }) ts) (begins_tries a b begins) (kept.scripts i s at).among)
+      ∙ ap (λ (n : ℕ). moment_or (slice_get b.nodes n)) (kept.scripts i s at).here
+
   pub scripts_there : (cs : List Course) → length cs ≡ length a.scenario.scripts → (i : ℕ) (s : ScriptState) → slice_get ss i ≡ Some s → s.script < length cs
   scripts_there cs long i s at = let lt = less a.scenario.scripts s.script s.part (asked_of i s at).0 in omega (arith, lt, long)
 
@@ -94,20 +101,22 @@ module _ (a : Asked) (b : Begun) (m : ℕ) (n : NodeState) (es : List EndState) 
   entries_now : (ns : List NodeState) → slice_get ns m ≡ Some n → kept.first.history.entries ++ kept.since ≡ entries_in ns m
   entries_now ns at = sym (grown_entries (value_of kept.first) (value_of n) kept.since kept.grows) ∙ sym (ap entries_or at)
 
-  back_here : (ns : List NodeState) (old : List Course) (k : ℕ) (p : ScriptPart) (c : Course) → slice_get ns m ≡ Some n → length old ≡ length a.scenario.scripts → slice_get a.scenario.scripts k ≡ Some p → among a.scripts k ≡ true → p.manager ≡ m → slice_get (put_all ss old) k ≡ Some c → IsCourse k p (entries_in ns m) c
+  back_here : (ns : List NodeState) (old : List Course) (k : ℕ) (p : ScriptPart) (c : Course) → slice_get ns m ≡ Some n → length old ≡ length a.scenario.scripts → slice_get a.scenario.scripts k ≡ Some p → among a.scripts k ≡ true → p.manager ≡ m → slice_get (put_all ss old) k ≡ Some c → IsCourse (Some (moment_or (slice_get b.nodes m))) k p (entries_in ns m) c
   back_here ns old k p c at long part asked mine is =
       let nil : k + 0 ≡ k = omega arith in
       let here : is_here a.scripts m (k + 0) p ≡ true = so_both (p.manager == m) (among a.scripts (k + 0)) (ap (λ (i : ℕ). i == m) mine ∙ itself m) (ap (among a.scripts) nil ∙ asked) in
       let member : Mem (k + 0) (named_from a.scripts m 0 a.scenario.scripts) = named_has a.scripts m 0 k a.scenario.scripts p part here in
       let s = mem_at script_name ss k (subst (λ (l : List ℕ). Mem k l) (sym names_are) (subst (λ (i : ℕ). Mem i (named_from a.scripts m 0 a.scenario.scripts)) nil member)) in
-      let put : slice_get (put_all ss old) s.1.script ≡ Some (rested s.1.course) = put_here ss old s.0 s.1 kept.scripts_apart (scripts_there old long s.0 s.1 s.2) s.2 in
-      let same : rested s.1.course ≡ c = some_is (rested s.1.course) c (sym put ∙ ap (slice_get (put_all ss old)) s.3 ∙ is) in
+      let put : slice_get (put_all ss old) s.1.script ≡ Some (course_then s.1) = put_here ss old s.0 s.1 kept.scripts_apart (scripts_there old long s.0 s.1 s.2) s.2 in
+      let same : course_then s.1 ≡ c = some_is (course_then s.1) c (sym put ∙ ap (slice_get (put_all ss old)) s.3 ∙ is) in
       let part_is : s.1.part ≡ p = some_is s.1.part p (sym (asked_of s.0 s.1 s.2).0 ∙ ap (slice_get a.scenario.scripts) s.3 ∙ part) in
-      subst (λ (d : Course). IsCourse k p (entries_in ns m) d) same
-      (subst (λ (q : ScriptPart). IsCourse k q (entries_in ns m) (rested s.1.course)) part_is
-      (subst (λ (i : ℕ). IsCourse i s.1.part (entries_in ns m) (rested s.1.course)) s.3
-      (subst (λ (d : List Entry). IsCourse s.1.script s.1.part d (rested s.1.course)) (entries_now ns at)
-      (course_back b m (kept.first.history.entries ++ kept.since) s.1 (kept.scripts s.0 s.1 s.2)))))
+      let moment : Option ℕ = Some (moment_or (slice_get b.nodes m)) in
+      subst (λ (d : Course). IsCourse moment k p (entries_in ns m) d) same
+      (subst (λ (q : ScriptPart). IsCourse moment k q (entries_in ns m) (course_then s.1)) part_is
+      (subst (λ (i : ℕ). IsCourse moment i s.1.part (entries_in ns m) (course_then s.1)) s.3
+      (subst (λ (d : List Entry). IsCourse moment s.1.script s.1.part d (course_then s.1)) (entries_now ns at)
+      (subst (λ (n : ℕ). IsCourse (Some n) s.1.script s.1.part (kept.first.history.entries ++ kept.since) (course_then s.1)) (moment_of_it s.0 s.1 s.2)
+      (course_back b m (kept.first.history.entries ++ kept.since) s.1 (kept.scripts s.0 s.1 s.2))))))
 
   -- and none of another manager moved
   moved_none : (k : ℕ) (p : ScriptPart) → slice_get a.scenario.scripts k ≡ Some p → p.manager ≢ m → Mem k (map script_name ss) → ⊥
@@ -116,18 +125,18 @@ module _ (a : Asked) (b : Begun) (m : ℕ) (n : NodeState) (es : List EndState) 
       let part_is : s.1.part ≡ p = some_is s.1.part p (sym (asked_of s.0 s.1 s.2).0 ∙ ap (slice_get a.scenario.scripts) s.3 ∙ part) in
       other (ap (λ (q : ScriptPart). q.manager) (sym part_is) ∙ (kept.scripts s.0 s.1 s.2).here)
 
-  pub back_out : (ns new_ns : List NodeState) (old new : List Course) → new_ns ≡ ns ++ n ∷ [] → length ns ≡ m → length old ≡ length a.scenario.scripts → new ≡ put_all ss old → AreBack a ns old → AreBack a new_ns new
+  pub back_out : (ns new_ns : List NodeState) (old new : List Course) → new_ns ≡ ns ++ n ∷ [] → length ns ≡ m → length old ≡ length a.scenario.scripts → new ≡ put_all ss old → AreBack a b ns old → AreBack a b new_ns new
   back_out ns new_ns old new more count long put back k p c part asked lt is = ⊎_elim
       (λ (e : (p.manager == m) ≡ true).
       let mine : p.manager ≡ m = are_same p.manager m e in
       let at : slice_get new_ns m ≡ Some n = ap (λ (l : List NodeState). slice_get l m) more ∙ ap (slice_get (ns ++ n ∷ [])) (sym count) ∙ last_at ns n in
-      subst (λ (i : ℕ). IsCourse k p (entries_in new_ns i) c) (sym mine) (back_here new_ns old k p c at long part asked mine (ap (λ (cs : List Course). slice_get cs k) (sym put) ∙ is)))
+      subst (λ (i : ℕ). IsCourse (Some (moment_or (slice_get b.nodes i))) k p (entries_in new_ns i) c) (sym mine) (back_here new_ns old k p c at long part asked mine (ap (λ (cs : List Course). slice_get cs k) (sym put) ∙ is)))
       (λ (e : (p.manager == m) ≡ false).
       let other : p.manager ≢ m = λ same. clash p.manager same e in
       let before : p.manager < length ns = under p.manager m (length ns) (length new_ns) other lt (longer ns new_ns n more) count in
       let x = there ns p.manager before in
       let entries : entries_in ns p.manager ≡ entries_in new_ns p.manager = ap entries_or (x.1 ∙ sym (ap (λ (l : List NodeState). slice_get l p.manager) more ∙ at_front ns (n ∷ []) p.manager x.0 x.1)) in
-      subst (λ (d : List Entry). IsCourse k p d c) entries
+      subst (λ (d : List Entry). IsCourse (Some (moment_or (slice_get b.nodes p.manager))) k p d c) entries
       (back k p c part asked before (sym (put_other ss old k (moved_none k p part other)) ∙ ap (λ (cs : List Course). slice_get cs k) (sym put) ∙ is)))
       (true_or_false (p.manager == m))
     where
@@ -171,7 +180,7 @@ lock_kept a b m n es ss begins at ends apart free names each =
 -- one more is taken out
 pub taken_on : (a : Asked) (b : Begun) (place : ℕ) (ns new_ns : List NodeState) (rows new_rows : List (List EndState)) (cs new_cs first : List Course) (n : NodeState) (es : List EndState) (ss : List ScriptState) (wants : Bool) → Begins a b → place ≡ length ns
     → Kept b (record { manager = place; node = n; ends = es; scripts = ss; wants = wants }) → IsKept n → new_ns ≡ ns ++ n ∷ [] → new_rows ≡ rows ++ es ∷ [] → length ns ≡ length rows → length cs ≡ length a.scenario.scripts → new_cs ≡ put_all ss cs
-    → AreOut b ns rows → OthersStay a first cs → AreBack a ns cs → AreOut b new_ns new_rows × OthersStay a first new_cs × AreBack a new_ns new_cs
+    → AreOut b ns rows → OthersStay a first cs → AreBack a b ns cs → AreOut b new_ns new_rows × OthersStay a first new_cs × AreBack a b new_ns new_cs
 taken_on a b place ns new_ns rows new_rows cs new_cs first n es ss wants begins at kept history more more_rows same long put out others back =
     let here : Kept b (record { manager = length ns; node = n; ends = es; scripts = ss; wants = wants }) = subst (λ (i : ℕ). Kept b (record { manager = i; node = n; ends = es; scripts = ss; wants = wants })) at kept in (
       out_more b ns new_ns rows new_rows n es more more_rows same (record { scripts = ss; wants = wants; kept = here; history = history }) out,

@@ -1,5 +1,6 @@
 -- A phase as its caller sees it: what it asks of a network, and what the network is behind it.
-use Rattle.std.specs.Prelude.{◌≡◌, ◌≤◌, ℕ, true, IfSome, List, [], ◌∷◌, ◌++◌, Option, Some, None, Result, Ok, Err, length, slice_get}
+use Rattle.std.specs.Prelude.{◌≡◌, ◌≤◌, ◌==◌, ℕ, Bool, true, false, IfSome, List, [], ◌∷◌, ◌++◌, Option, Some, None, Result, Ok, Err, drop, length, slice_get}
+use Rattle.std.specs.List.{list_any}
 use Rattle.mq_history.specs.Scenarios.{ArePhased, IsScenario}
 use Rattle.mq_history.specs.declared.scenario.Scenario.{Scenario}
 use Rattle.mq_spec_node.specs.Terms.{Entry, ScriptPart}
@@ -13,6 +14,7 @@ use Rattle.mq_acts.specs.Advances.{IsTextLine}
 use Rattle.mq_acts.specs.Restarts.{StaysOwn}
 use Rattle.mq_nodes.specs.declared.nodes.Stop.{Stop}
 use Rattle.mq_nodes.specs.declared.nodes.Stop.TheVariants as stops
+use Rattle.mq_nodes.specs.Told.{KeptSo}
 use Rattle.mq_ways.specs.Ways.{CableState}
 use Rattle.mq_split.specs.Facing.{AreJoined}
 use Rattle.mq_split.specs.Opening.{EachCable, IsShort}
@@ -36,15 +38,27 @@ abbrev pub tries_in : Scenario → List NodeState → List ℕ → List Trying
 tries_in s ns [] = []
 tries_in s ns (k ∷ ks) = tries_one ns k (slice_get s.scripts k) ++ tries_in s ns ks
 
--- how far a script is, none of whose gets waits
-pub record IsCourse (k : ℕ) (p : ScriptPart) (es : List Entry) (c : Course) : Type 0 where
+-- How far a script is: no get of it waits, or its next line was tried at a moment, from which its deadline is kept.
+pub record IsCourse (tried : Option ℕ) (k : ℕ) (p : ScriptPart) (es : List Entry) (c : Course) : Type 0 where
   pub stands : Stands k p es c
   pub few : c.done ≤ length p.lines
-  pub rests : c.until ≡ None
+  pub rests : KeptSo tried (drop c.done p.lines) c.until
 
--- of all scripts, by what the managers did
+-- of all scripts, by what the managers did; no get waits
 abbrev pub AreCourses : Scenario → List NodeState → List Course → Type 0
-AreCourses s ns cs = (k : ℕ) (p : ScriptPart) (c : Course) → slice_get s.scripts k ≡ Some p → slice_get cs k ≡ Some c → IsCourse k p (entries_in ns p.manager) c
+AreCourses s ns cs = (k : ℕ) (p : ScriptPart) (c : Course) → slice_get s.scripts k ≡ Some p → slice_get cs k ≡ Some c → IsCourse None k p (entries_in ns p.manager) c
+
+-- whether a script is one of these
+abbrev pub among : List ℕ → ℕ → Bool
+among ks k = list_any (λ (j : ℕ). j == k) ks
+
+-- behind a phase of these scripts the next line of each may have been tried, at the moment with which it began at the script's manager
+abbrev pub if_among : Bool → ℕ → Option ℕ
+if_among true moment = Some moment
+if_among false moment = None
+
+abbrev pub AreLeft : Scenario → List ℕ → (old ns : List NodeState) → List Course → Type 0
+AreLeft s ks old ns cs = (k : ℕ) (p : ScriptPart) (c : Course) → slice_get s.scripts k ≡ Some p → slice_get cs k ≡ Some c → IsCourse (if_among (among ks k) (moment_or (slice_get old p.manager))) k p (entries_in ns p.manager) c
 
 -- another event may come, at each node
 abbrev pub AreReady : List NodeState → Type 0
@@ -91,7 +105,7 @@ pub record PhaseRan (s : Scenario) (ks : List ℕ) (old : List NodeState) (r : R
   pub managers : length ns ≡ length old
   pub nodes : (m : ℕ) (n new : NodeState) → slice_get old m ≡ Some n → slice_get ns m ≡ Some new → NodeRan (tries_in s old ks) m (since m) n new
   pub scripts : length cs ≡ length s.scripts
-  pub courses : AreCourses s ns cs
+  pub courses : AreLeft s ks old ns cs
   pub cables : length ws ≡ length s.cables
   pub ways : AreJoined s.cables (entries_in ns) ws
   pub ends : PhaseEnds r ns

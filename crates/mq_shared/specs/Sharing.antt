@@ -1,21 +1,16 @@
 -- How a phase begins: which scripts are its, whose they are, and what its locks know of it.
-use Rattle.std.specs.Prelude.{◌==◌, ◌&&◌, ℕ, zero, suc, Bool, true, false, List, [], ◌∷◌, ◌++◌, None, length, slice_set}
-use Rattle.std.specs.List.{list_any}
+use Rattle.std.specs.Prelude.{◌==◌, ◌&&◌, ℕ, zero, suc, Bool, true, false, List, [], ◌∷◌, ◌++◌, Option, Some, None, length, slice_get, slice_set}
 use Rattle.atomic_table.specs.Seated.{TableId}
 use Rattle.mq_history.specs.declared.scenario.Scenario.{Scenario}
-use Rattle.mq_spec_node.specs.Terms.{ScriptPart}
+use Rattle.mq_spec_node.specs.Terms.{ScriptLine, ScriptPart}
 use Rattle.mq_spec_node.specs.Words.{fresh}
-use Rattle.mq_progress.specs.Course.{Course}
+use Rattle.mq_progress.specs.Course.{Course, until_in}
 use Rattle.mq_events.specs.States.{NodeState}
 use Rattle.mq_shared.specs.Held.{Begun, ScriptState}
 use Rattle.mq_split.specs.Parting.{ends_named}
-use Rattle.mq_shared.specs.Phasing.{tries_in}
+use Rattle.mq_shared.specs.Phasing.{among, tries_in}
 
--- whether a script is one of these
-abbrev pub among : List ℕ → ℕ → Bool
-among ks k = list_any (λ (j : ℕ). j == k) ks
-
--- and this manager's
+-- whether a script is one of these, and this manager's
 abbrev pub is_here : List ℕ → ℕ → ℕ → ScriptPart → Bool
 is_here ks m k p = (p.manager == m) && among ks k
 
@@ -48,12 +43,21 @@ begun_with s ks ns outs backs = record {
   scripts = by_manager (named s ks) (length s.managers);
 }
 
--- the course of a script that has done nothing, and one of which no get waits
+-- the course of a script that has done nothing
 abbrev pub unbegun : Course
 unbegun = record { memory = fresh; room = 0; done = 0; until = None }
 
-abbrev pub rested : Course → Course
-rested c = record c { until = None }
+-- The course that goes back into its place: the deadline of its next line's get is from the moment with which the phase began, the moment of
+-- its first try.
+abbrev pub until_of : Course → ℕ → Option ScriptLine → Option ℕ
+until_of c moment None = None
+until_of c moment (Some l) = until_in c moment l
+
+abbrev pub kept_course : ℕ → ScriptPart → Course → Course
+kept_course moment p c = record c { until = until_of c moment (slice_get p.lines c.done) }
+
+abbrev pub course_then : ScriptState → Course
+course_then s = kept_course s.moment s.part s.course
 
 -- a script goes to its manager's, where it is here: it is the last there, and its course is out
 abbrev pub last_if : {A : Type 0} → Bool → A → List A → List A
@@ -67,4 +71,4 @@ out_if false k cs = cs
 -- scripts' courses are back in their places
 abbrev pub put_all : List ScriptState → List Course → List Course
 put_all [] cs = cs
-put_all (s ∷ ss) cs = slice_set (put_all ss cs) s.script (rested s.course)
+put_all (s ∷ ss) cs = slice_set (put_all ss cs) s.script (course_then s)

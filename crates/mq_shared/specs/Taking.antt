@@ -1,5 +1,5 @@
 -- What is known of nodes and courses while a phase begins and ends: what goes under a lock, and what came out.
-use Rattle.std.specs.Prelude.{◌≡◌, ◌<◌, ◌≤◌, ℕ, Bool, true, false, List, [], drop, Some, length, slice_get}
+use Rattle.std.specs.Prelude.{◌≡◌, ◌<◌, ◌≤◌, ℕ, Bool, true, false, List, [], drop, Some, None, length, slice_get}
 use Rattle.mq_history.specs.Scenarios.{IsScenario}
 use Rattle.mq_history.specs.declared.scenario.Scenario.{Scenario}
 use Rattle.mq_spec_node.specs.Terms.{Entry, ScriptPart}
@@ -11,8 +11,8 @@ use Rattle.mq_split.specs.Took.{EndState}
 use Rattle.mq_split.specs.Ends.{AreFree, EndsApart}
 use Rattle.mq_shared.specs.Held.{Begun, Kept, ScriptState, cables_begun, entries_begun}
 use Rattle.mq_split.specs.Parting.{AreEndsAt, EndRowState, ends_named, none_since}
-use Rattle.mq_shared.specs.Phasing.{AreReady, AreTexts, IsCourse, entries_in}
-use Rattle.mq_shared.specs.Sharing.{among, begun_with}
+use Rattle.mq_shared.specs.Phasing.{AreReady, AreTexts, IsCourse, among, entries_in, moment_or}
+use Rattle.mq_shared.specs.Sharing.{begun_with}
 
 -- the scripts of a phase at a manager, with room for more
 pub record ScriptRowState : Type 0 where
@@ -34,7 +34,7 @@ pub record Begins (a : Asked) (b : Begun) : Type 0 where
 
 -- the courses of a manager's scripts are in their places
 abbrev pub CoursesAt : Asked → Begun → ℕ → List Course → Type 0
-CoursesAt a b m cs = (k : ℕ) (p : ScriptPart) (c : Course) → slice_get a.scenario.scripts k ≡ Some p → slice_get cs k ≡ Some c → p.manager ≡ m → IsCourse k p (entries_begun b m) c
+CoursesAt a b m cs = (k : ℕ) (p : ScriptPart) (c : Course) → slice_get a.scenario.scripts k ≡ Some p → slice_get cs k ≡ Some c → p.manager ≡ m → IsCourse None k p (entries_begun b m) c
 
 -- those of managers before a place are
 abbrev pub CoursesBelow : Asked → Begun → ℕ → List Course → Type 0
@@ -70,8 +70,8 @@ abbrev pub since_of : Begun → List NodeState → ℕ → List Entry
 since_of b ns m = drop (length (entries_begun b m)) (entries_in ns m)
 
 -- the courses of the phase's scripts are back, of managers that are out
-abbrev pub AreBack : Asked → List NodeState → List Course → Type 0
-AreBack a ns cs = (k : ℕ) (p : ScriptPart) (c : Course) → slice_get a.scenario.scripts k ≡ Some p → among a.scripts k ≡ true → p.manager < length ns → slice_get cs k ≡ Some c → IsCourse k p (entries_in ns p.manager) c
+abbrev pub AreBack : Asked → Begun → List NodeState → List Course → Type 0
+AreBack a b ns cs = (k : ℕ) (p : ScriptPart) (c : Course) → slice_get a.scenario.scripts k ≡ Some p → among a.scripts k ≡ true → p.manager < length ns → slice_get cs k ≡ Some c → IsCourse (Some (moment_or (slice_get b.nodes p.manager))) k p (entries_in ns p.manager) c
 
 -- no trigger is due at any node; no restart was from a log that was changed from outside
 abbrev pub AreDone : List NodeState → Type 0

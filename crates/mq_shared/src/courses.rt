@@ -4,8 +4,8 @@ ghost use Rattle.mq_spec_node.specs.Terms as terms;
 ghost use Rattle.mq_progress.specs.Course as progress;
 ghost use Rattle.mq_split.specs.Ends.{EachIs};
 ghost use Rattle.mq_shared.specs.Held.{Begun, IsScriptIn, ScriptState, entries_begun, script_name};
-ghost use Rattle.mq_shared.specs.Phasing.{moment_or};
-ghost use Rattle.mq_shared.specs.Sharing.{among, is_here, last_if, named, out_if, put_all, rested, unbegun};
+ghost use Rattle.mq_shared.specs.Phasing.{among, moment_or};
+ghost use Rattle.mq_shared.specs.Sharing.{is_here, kept_course, last_if, named, out_if, put_all, unbegun, until_of};
 ghost use Rattle.mq_shared.specs.Taking.{Begins, CoursesAt, RowsWait};
 
 use crate::held::HeldScript;
@@ -38,12 +38,29 @@ fn take_course(alloc: Global, courses: &mut Items<Progress>, at: usize) -> Progr
     std::mem::replace(courses.at_mut(at), Progress::new(alloc))
 }
 
-/// Puts a course into its place; its get does not wait from now on.
-fn put_course(courses: &mut Items<Progress>, at: usize, mut course: Progress)
-    requires { at < length courses.old }
-    ensures { courses.new ≡ slice_set courses.old at (rested course) }
+/// The deadline of a script's next line, where it is a get: what is kept of it, or from this moment on.
+fn until_from(course: &Progress, part: &ScriptPart, moment: u64) -> Option<u64>
+    ensures { result ≡ until_of course.now moment (slice_get part.now.lines course.now.done) }
 {
-    course.wait(None);
+    match course.line(part) {
+        Some(line) => course.until(moment, line),
+        None => None,
+    }
+}
+
+/// Puts a course into its place; the deadline of its next line's get is kept, from the moment of its first try.
+fn put_course(
+    courses: &mut Items<Progress>,
+    at: usize,
+    part: &ScriptPart,
+    moment: u64,
+    mut course: Progress,
+)
+    requires { at < length courses.old }
+    ensures { courses.new ≡ slice_set courses.old at (kept_course moment part.now course) }
+{
+    let until = until_from(&course, part, moment);
+    course.wait(until);
     *courses.at_mut(at) = course;
 }
 
@@ -181,7 +198,7 @@ pub fn hold_scripts<'x>(
     row.into_items()
 }
 
-/// Courses of scripts go back into their places; no get waits then. It takes no memory.
+/// Courses of scripts go back into their places; their gets keep the deadlines of their first tries. It takes no memory.
 pub fn put_courses(mut held: Items<HeldScript<'_>>, courses: &mut Items<Progress>)
     requires { (i : ℕ) (s : ScriptState) → slice_get held i ≡ Some s → s.script < length courses.old }
     ensures { courses.new ≡ put_all held.entry courses.old }
@@ -189,10 +206,10 @@ pub fn put_courses(mut held: Items<HeldScript<'_>>, courses: &mut Items<Progress
     while let Some(script) = held.pop() {
         let HeldScript {
             script: at,
-            part: _,
-            moment: _,
+            part,
+            moment,
             progress,
         } = script;
-        put_course(courses, usize::from(at), progress);
+        put_course(courses, usize::from(at), part, moment, progress);
     }
 }

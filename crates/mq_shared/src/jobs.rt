@@ -22,7 +22,7 @@ const TIMEOUT_AFTER: u32 = 1_000;
 const YIELDS: u32 = 100;
 
 /// What a worker does at its node.
-#[derive(Clone, Copy, Debug, PartialEq, Eq)]
+#[derive(Clone, Copy)]
 pub enum Work {
     /// The lines of a script.
     Script {
@@ -41,7 +41,7 @@ pub enum Work {
 }
 
 /// A worker of a phase.
-#[derive(Clone, Copy, Debug, PartialEq, Eq)]
+#[derive(Clone, Copy)]
 pub struct Job {
     /// The place of the lock, which is the manager's.
     pub lock: usize,

@@ -207,7 +207,8 @@ fn run<'x, P: PhaseName + Send + Sync, D: Disk + Send, R: Threads + Wait + Sync,
 }
 
 /// Runs scripts, places in the scenario, and the ends of all channels in threads. Nodes, courses of scripts and cables are the
-/// scenario's, in its order. Behind it no get waits, whether its script is at its end or not. Where a direction of a cable holds
+/// scenario's, in its order. Behind it the next line of each of its scripts that is a get keeps its deadline, from the moment with which the phase
+/// began; no other get waits. Where a direction of a cable holds
 /// more than 64 items it does nothing; where none did, and memory was not wanting, none does behind it.
 ///
 /// # Errors

@@ -204,7 +204,7 @@ pub fn take_all<'x, P: PhaseName, D: Disk, R: Wait>(
     ensures free { (result ≡ false) → AllFree ends.new.items }
     ensures long { length courses.new ≡ length courses.old }
     ensures others { OthersStay a courses.old courses.new }
-    ensures back { AreBack a nodes.new.items courses.new }
+    ensures back { AreBack a P.begun nodes.new.items courses.new }
 {
     let mut wants = false;
     while let Some(lock) = locks.pop() {

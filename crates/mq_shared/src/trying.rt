@@ -26,7 +26,7 @@ use mq_turns::{Turn, sender_turn, timeout};
 use std::sync::Wait;
 
 /// What a try of a script's next line came to.
-#[derive(Clone, Copy, Debug, PartialEq, Eq)]
+#[derive(Clone, Copy)]
 pub enum Tried {
     /// The line is done.
     Done,

@@ -1,6 +1,7 @@
 //! The rows of all queues as a log tells them, found by their idents.
 #![tactic(auto)]
 
+mod copies;
 mod distinct;
 mod rack;
 mod racks;

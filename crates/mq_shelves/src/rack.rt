@@ -7,6 +7,7 @@ ghost use Rattle.std.specs.List.{IsDistinct};
 ghost use Rattle.mq_queue.specs.declared.row.Row.{Row};
 ghost use Rattle.mq_shelves.specs.Racks.{stand_cmp, rows_of, has_none};
 
+use crate::copies::copy_rows;
 use mq_base::{Items, NoMemory};
 use mq_message::Holder;
 use mq_queue::Row;
@@ -100,5 +101,12 @@ impl Rack {
             rows.push(row)?;
         }
         Ok(rows)
+    }
+
+    /// Copies of the rows in order.
+    pub fn copy_rows(&self, alloc: Global) -> Result<Items<Row>, NoMemory>
+        ensures { IfOk result (λ rows. rows ≡ rows_of self.now) }
+    {
+        copy_rows(alloc, &self.rows)
     }
 }

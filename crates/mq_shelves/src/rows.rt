@@ -11,6 +11,7 @@ ghost use Rattle.mq_spec_log.specs.Shelves.{shelf_in, set_shelf, on_all, shelved
 ghost use Rattle.mq_shelves.specs.Found.{IsFound};
 ghost use Rattle.mq_shelves.specs.Racks.{any_row, tagged, less_held, freed_held};
 
+use crate::copies::copy_shelves;
 use crate::rack::{Rack, Stand};
 use crate::racks::{row_at, standing};
 use crate::slots::Racks;
@@ -180,6 +181,13 @@ impl Rows {
             })?;
         }
         Ok(Items::from_vec(shelves))
+    }
+
+    /// Copies of the queues with their rows.
+    pub fn to_shelves(&self, alloc: Global) -> Result<Items<Shelf>, NoMemory>
+        ensures { IfOk result (λ shelves. shelves ≡ self.now) }
+    {
+        copy_shelves(alloc, self.racks.slots())
     }
 }
 

@@ -216,4 +216,11 @@ impl Shelves {
     {
         self.rows.into_shelves(alloc)
     }
+
+    /// Copies of the queues with their rows.
+    pub fn to_shelves(&self, alloc: Global) -> Result<Items<Shelf>, NoMemory>
+        ensures { IfOk result (λ shelves. shelves ≡ self.now) }
+    {
+        self.rows.to_shelves(alloc)
+    }
 }

@@ -270,6 +270,14 @@ impl Racks {
             drop_in(&mut self.slots, place);
         }
     }
+
+    /// The queues with their rows, by when they came.
+    pub fn slots(&self) -> &BTreeMap<u64, Slot>
+        ensures { slot_entries result.now.entries ≡ self.now }
+    {
+        &self.slots
+    }
+
     /// The queues with their rows, by when they came.
     pub fn into_slots(self) -> BTreeMap<u64, Slot>
         ensures { slot_entries result.entries ≡ self }

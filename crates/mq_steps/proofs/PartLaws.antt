@@ -9,7 +9,7 @@ use Rattle.mq_spec_network.specs.Tasks.{Task}
 use Rattle.mq_nodes.specs.declared.nodes.Stop.{Stop}
 use Rattle.mq_nodes.specs.declared.nodes.Stop.TheVariants as stops
 use Rattle.mq_nodes.specs.Course.{Course, Ready}
-use Rattle.mq_nodes.specs.Told.{OneLine, Part, Onward}
+use Rattle.mq_nodes.specs.Told.{LineRan, Part, Onward}
 use Rattle.mq_nodes.proofs.Onward.{begin, same_scenario, whole}
 use Rattle.mq_steps.specs.declared.pumping.Pumped.{Pumped}
 use Rattle.mq_steps.specs.Counts.{idle_or_spent, idle_unless, pumped_then, spent_or}
@@ -43,8 +43,8 @@ err_is (Err y) e h = ap (λ (z : _). Err z) h
 pub part_breaks : {T U : Type 0} (ts : List Task) (r : Result T Stop) (stop : Stop) (c d : Course) → IsErrAnd r (λ (y : Stop). y ≡ stop) → Part {T = U} ts (Err stop) c d → Part {T = T} ts r c d
 part_breaks {T} {U} ts r stop c d h p = subst (λ (x : Result T Stop). Part {T = T} ts x c d) (sym (err_is r stop h)) (stops_too {T = U} {U = T} ts stop c d p)
 
-pub line_breaks_so : (k : ℕ) (p : ScriptPart) (r : Result Bool Stop) (stop : Stop) (c d : Course) → IsErrAnd r (λ (y : Stop). y ≡ stop) → OneLine k p (Err stop) c d → OneLine k p r c d
-line_breaks_so k p r stop c d h x = subst (λ (y : Result Bool Stop). OneLine k p y c d) (sym (err_is r stop h)) x
+pub line_breaks_so : (k : ℕ) (p : ScriptPart) (r : Result Bool Stop) (stop : Stop) (c d : Course) → IsErrAnd r (λ (y : Stop). y ≡ stop) → LineRan k p (Err stop) c d → LineRan k p r c d
+line_breaks_so k p r stop c d h x = subst (λ (y : Result Bool Stop). LineRan k p y c d) (sym (err_is r stop h)) x
 
 -- the scenario stays
 pub scenario_stays : {T : Type 0} (ts : List Task) (r : Result T Stop) (c d : Course) → Part {T = T} ts r c d → d.net.scenario ≡ c.net.scenario

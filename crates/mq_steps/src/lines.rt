@@ -1,24 +1,24 @@
 //! Lines of a script, with gets that wait: the clocks advance to the deadline, and then the get is made.
-ghost use Rattle.std.specs.Prelude.{◌≡◌, ◌<◌, Some, All, length, slice_get};
+ghost use Rattle.std.specs.Prelude.{◌≡◌, ◌<◌, Some, None, All, length, slice_get};
 ghost use Rattle.mq_history.specs.declared.scenario.ScriptPart as parts;
 ghost use Rattle.mq_spec_network.specs.Tasks.{run_script};
 ghost use Rattle.mq_nodes.specs.Course.{Ready, Rests};
-ghost use Rattle.mq_nodes.specs.Told.{Part, OneLine, upto};
-ghost use Rattle.mq_steps.specs.Lines.{number_or};
+ghost use Rattle.mq_nodes.specs.Told.{Part, LineRan, MayTry, upto};
+ghost use Rattle.mq_steps.specs.Lines.{FinishRan, LinesTold, number_or};
 
 use crate::asks::clocks;
 use mq_history::{Scenario, ScriptPart};
 use mq_nodes::{Advanced, Nodes, Stop};
 
 /// Does a script's next line, if one is left: whether one was. A get that is to wait waits: the moments of all managers
-/// advance to its deadline first.
+/// advance to its deadline first, which is kept from its first try.
 #[tactic(auto, using(mq_nodes::proofs::LineLaws::line_done, mq_nodes::proofs::LineLaws::line_ends, mq_nodes::proofs::LineLaws::line_breaks, mq_nodes::proofs::WaitLaws::not_late))]
 fn line<N: Nodes>(nodes: &mut N, script: u16, part: &ScriptPart) -> Result<bool, Stop>
     requires ready { Ready (N.course nodes.old).net }
-    requires rests { Rests (N.course nodes.old) }
+    requires tried { MayTry script part.now (N.course nodes.old) }
     requires there { slice_get (N.course nodes.old).net.scenario.scripts script ≡ Some part.now }
     requires manager { part.now.manager < length (N.course nodes.old).net.scenario.managers }
-    ensures { OneLine script part.now result (N.course nodes.old) (N.course nodes.new) }
+    ensures { LineRan script part.now result (N.course nodes.old) (N.course nodes.new) }
 {
     match nodes.advance(script, part)? {
         Advanced::Done => Ok(true),
@@ -35,10 +35,10 @@ fn line<N: Nodes>(nodes: &mut N, script: u16, part: &ScriptPart) -> Result<bool,
 /// Does a script's next lines, at most so many.
 fn lines<N: Nodes>(nodes: &mut N, script: u16, part: &ScriptPart, most: usize) -> Result<(), Stop>
     requires ready { Ready (N.course nodes.old).net }
-    requires rests { Rests (N.course nodes.old) }
+    requires rests { (N.course nodes.old).waits script ≡ None }
     requires there { slice_get (N.course nodes.old).net.scenario.scripts script ≡ Some part.now }
     requires manager { part.now.manager < length (N.course nodes.old).net.scenario.managers }
-    ensures { Part (upto script part.now most (N.course nodes.old)) result (N.course nodes.old) (N.course nodes.new) }
+    ensures { LinesTold script (upto script part.now None most (N.course nodes.old)) result (N.course nodes.old) (N.course nodes.new) }
 {
     for _ in 0..most {
         if !line(nodes, script, part)? {
@@ -75,4 +75,21 @@ pub fn run<N: Nodes>(
         return Ok(());
     };
     lines(nodes, script, part, number(most, part.lines.len()))
+}
+
+/// Does all that is left of a script, whose next line may have been tried before.
+pub fn finish<N: Nodes>(nodes: &mut N, scenario: &Scenario, script: u16) -> Result<(), Stop>
+    requires ready { Ready (N.course nodes.old).net }
+    requires tried { (p : parts.ScriptPart) → slice_get scenario.now.scripts script ≡ Some p → MayTry script p (N.course nodes.old) }
+    requires same { (N.course nodes.old).net.scenario ≡ scenario.now }
+    requires scripts { All (λ (p : parts.ScriptPart). p.manager < length scenario.now.managers) scenario.now.scripts }
+    ensures { FinishRan script (slice_get scenario.now.scripts script) result (N.course nodes.old) (N.course nodes.new) }
+{
+    let Some(part) = scenario.scripts.get(usize::from(script)) else {
+        return Ok(());
+    };
+    if !line(nodes, script, part)? {
+        return Ok(());
+    }
+    lines(nodes, script, part, part.lines.len())
 }

@@ -7,11 +7,12 @@ ghost use Rattle.mq_spec_network.specs.Tasks.{tasks_of};
 ghost use Rattle.mq_nodes.specs.Course.{Ready, Rests};
 ghost use Rattle.mq_nodes.specs.Told.{Part, PhaseTold};
 
-use crate::lines::run;
+use crate::lines::finish;
 use mq_history::Scenario;
 use mq_nodes::{Nodes, Stop};
 
-/// A phase: its scripts and the ends of channels go on as `go` lets them; what is left of the scripts is then run, script by script.
+/// A phase: its scripts and the ends of channels go on as `go` lets them; what is left of the scripts is then done, script by script. A get that
+/// waited keeps its deadline.
 pub fn phase<N: Nodes, F: Fn(&mut N, &[u16]) -> Result<(), Stop>>(
     nodes: &mut N,
     scenario: &Scenario,
@@ -29,7 +30,7 @@ pub fn phase<N: Nodes, F: Fn(&mut N, &[u16]) -> Result<(), Stop>>(
 {
     go(nodes, scripts)?;
     for script in scripts {
-        run(nodes, scenario, *script, None)?;
+        finish(nodes, scenario, *script)?;
     }
     Ok(())
 }

@@ -13,7 +13,7 @@ use mq_base::NoMemory;
 use mq_nodes::{Nodes, Stop};
 
 /// What a PUMP did.
-#[derive(Clone, Copy, Debug, PartialEq, Eq)]
+#[derive(Clone, Copy)]
 pub struct Pumped {
     /// The turns and timeouts that changed something.
     pub turns: u32,
@@ -24,7 +24,7 @@ pub struct Pumped {
 }
 
 /// Why a pump's turns break off.
-#[derive(Clone, Copy, Debug, PartialEq, Eq)]
+#[derive(Clone, Copy)]
 pub(crate) enum Halt {
     NoMemory,
     /// This manager has made its last event; so many turns are left behind it.

@@ -8,7 +8,7 @@ use mq_history::{Entry, History};
 use std::alloc::Global;
 
 /// Where an entry of a story stands.
-#[derive(Clone, Copy, Debug, PartialEq, Eq)]
+#[derive(Clone, Copy)]
 pub struct Spot {
     /// The manager's place in the scenario, from 0.
     pub manager: usize,

@@ -5,7 +5,7 @@ use mq_base::{Items, QName};
 use mq_message::Ident;
 
 /// An end of a channel.
-#[derive(Clone, Copy, Debug, PartialEq, Eq)]
+#[derive(Clone, Copy, PartialEq, Eq)]
 pub enum End {
     Sender,
     Receiver,
@@ -22,7 +22,7 @@ pub struct InDoubt {
 }
 
 /// What a running sender keeps of a unit in doubt: its name, and the last sequence number with it.
-#[derive(Clone, Copy, Debug, PartialEq, Eq)]
+#[derive(Clone, Copy, PartialEq, Eq)]
 pub struct Doubt {
     pub unit: Unit,
     pub last: u32,
@@ -59,7 +59,7 @@ pub struct ChannelData {
 
 /// What a sender sees of its transmission queue: whether gets are enabled, whether free rows have expired, and how
 /// many rows are free.
-#[derive(Clone, Copy, Debug, PartialEq, Eq)]
+#[derive(Clone, Copy)]
 pub struct Stock {
     pub enabled: bool,
     pub expired: bool,

@@ -7,7 +7,7 @@ ghost use Rattle.mq_sync.specs.Units.{settlement, unit_text};
 use std::fmt;
 
 /// A unit of a channel: the batch number `n` of a session, from 1 in each session. (0, 0) is none.
-#[derive(Clone, Copy, Debug, PartialEq, Eq)]
+#[derive(Clone, Copy, PartialEq, Eq)]
 pub struct Unit {
     pub session: u64,
     pub n: u64,
@@ -33,7 +33,7 @@ impl fmt::Display for Unit {
 }
 
 /// What becomes of a unit in doubt.
-#[derive(Clone, Copy, Debug, PartialEq, Eq)]
+#[derive(Clone, Copy, PartialEq, Eq)]
 pub enum Settle {
     Commit,
     Backout,

@@ -229,7 +229,7 @@ fn a_sender_gives_up_when_all_tries_are_used(rt: HostRuntime) {
     assert!(rt; sender.timeout() && sender.is_running());
     sender.state = SenderState::Binding;
     assert!(rt; sender.timeout() && !sender.is_running());
-    assert_eq!(rt; sender.state, SenderState::Stopped(StopCause::NoAnswer));
+    assert!(rt; sender.state == SenderState::Stopped(StopCause::NoAnswer));
 }
 
 /// The last number, whether it is forced, the session and the stamp of a BIND.

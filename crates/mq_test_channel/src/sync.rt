@@ -7,8 +7,8 @@ use std::test::*;
 fn a_unit_is_committed_where_it_is_the_receivers_last_one(rt: HostRuntime) {
     let one = Unit { session: 1, n: 1 };
     let two = Unit { session: 2, n: 1 };
-    assert_eq!(rt; settle_of(one, one), Settle::Commit);
-    assert_eq!(rt; settle_of(two, one), Settle::Backout);
+    assert!(rt; settle_of(one, one) == Settle::Commit);
+    assert!(rt; settle_of(two, one) == Settle::Backout);
 }
 
 #[test]

@@ -8,13 +8,21 @@ use std::process::Abort;
 use std::test::*;
 
 fn takes_key(rt: &impl Abort, verb: Verb, kind: Kind, word: &[u8], key: Option<Key>) {
-    let found = key_of(verb, kind, word);
-    assert_eq!(rt; found, key);
+    let is_so = match (key_of(verb, kind, word), key) {
+        (Some(found), Some(key)) => found == key,
+        (None, None) => true,
+        _ => false,
+    };
+    assert!(rt; is_so);
 }
 
 fn takes_object(rt: &impl Abort, verb: Verb, word: &[u8], noun: Option<Noun>) {
-    let found = object_of(verb, word);
-    assert_eq!(rt; found, noun);
+    let is_so = match (object_of(verb, word), noun) {
+        (Some(found), Some(noun)) => found == noun,
+        (None, None) => true,
+        _ => false,
+    };
+    assert!(rt; is_so);
 }
 
 /// The number that a value gives, where it gives one.
@@ -40,8 +48,8 @@ fn trigger_given(alloc: Global, kind: Kind, key: Key, value: &Value) -> Option<b
 
 #[test]
 fn words_name_objects_behind_verbs(rt: HostRuntime) {
-    assert_eq!(rt; verb_of(b"DIS"), Some(Verb::Display));
-    assert_eq!(rt; verb_of(b"MAKE"), None);
+    assert!(rt; matches!(verb_of(b"DIS"), Some(Verb::Display)));
+    assert!(rt; verb_of(b"MAKE").is_none());
     takes_object(&rt, Verb::Define, b"CHL", Some(Noun::Channel));
     takes_object(&rt, Verb::Define, b"QMGR", None);
     takes_object(&rt, Verb::Alter, b"QMGR", Some(Noun::Manager));

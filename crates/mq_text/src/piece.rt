@@ -11,7 +11,7 @@ use std::alloc::{AllocError, Global};
 use thiserror::Error;
 
 /// What a piece of a text is.
-#[derive(Clone, Copy, Debug, PartialEq, Eq)]
+#[derive(Clone, Copy, PartialEq, Eq)]
 pub enum PieceKind {
     /// Bytes up to a blank, a quote, a bracket, a comma or a semicolon.
     Word,
@@ -26,7 +26,7 @@ pub enum PieceKind {
 }
 
 /// A piece of a text: its bytes, of which there is one at least.
-#[derive(Clone, Copy, Debug, PartialEq, Eq)]
+#[derive(Clone, Copy)]
 pub struct Piece {
     pub kind: PieceKind,
     /// The place of the first byte, counted from 0.
@@ -36,7 +36,7 @@ pub struct Piece {
 }
 
 /// What stands at the front of some bytes.
-#[derive(Clone, Copy, Debug, PartialEq, Eq)]
+#[derive(Clone, Copy)]
 pub enum Front {
     /// A blank.
     Gap,
@@ -47,7 +47,7 @@ pub enum Front {
 }
 
 /// Why a text has no pieces.
-#[derive(Clone, Copy, Debug, PartialEq, Eq, Error)]
+#[derive(Clone, Copy, Debug, Error)]
 pub enum PieceFault {
     /// The quote at this place, counted from 0, is not closed.
     #[error("the quote at byte {0} is not closed")]

@@ -15,7 +15,7 @@ use mq_history::{Actor, Call, Chance, Effect, Entry, Reply};
 use mq_own::ChannelEnd;
 
 /// What came of a turn or of a timeout.
-#[derive(Clone, Copy, Debug, PartialEq, Eq)]
+#[derive(Clone, Copy)]
 pub enum Turn {
     /// An event was made.
     Changed,

@@ -19,7 +19,7 @@ use mq_message::Want;
 use mq_own::Monitor;
 
 /// What a monitor's turn did.
-#[derive(Clone, Copy, Debug, PartialEq, Eq)]
+#[derive(Clone, Copy)]
 pub enum Monitored {
     /// Nothing: there is no message to get.
     Idle,

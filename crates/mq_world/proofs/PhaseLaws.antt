@@ -1,6 +1,6 @@
 -- A phase in threads: what it asks of a network holds, and behind it the network is one again, which tells of it.
-use Rattle.std.proofs.Common.{◌≡◌, ℕ, ◌+◌, ◌<◌, ◌≤◌, nat_le, Bool, true, false, List, [], ◌∷◌, ◌++◌, length, refl, sym, ap, subst, ◌∙◌, arith}
-use Rattle.std.specs.Prelude.{map, Option, Some, None, Result, Ok, Err, option_map, slice_get}
+use Rattle.std.proofs.Common.{◌≡◌, ℕ, ◌+◌, ◌<◌, ◌≤◌, nat_le, Bool, true, false, List, [], ◌∷◌, ◌++◌, length, refl, sym, ap, subst, ◌∙◌, inl, inr, arith}
+use Rattle.std.specs.Prelude.{IsSome, drop, map, Option, Some, None, Result, Ok, Err, option_map, slice_get}
 use Rattle.std.proofs.lemmas.Bool.Decides.{nat_tests}
 use Rattle.std.proofs.lemmas.Option.{slice_get_within}
 use Rattle.mq_calls.specs.Recovery.{AreKnown, IsImage}
@@ -9,12 +9,14 @@ use Rattle.mq_history.specs.declared.history.History.{History}
 use Rattle.mq_history.specs.declared.history.Mark.{Mark}
 use Rattle.mq_history.specs.declared.scenario.Scenario.{Scenario}
 use Rattle.mq_history.specs.declared.scenario.ScriptPart.{ScriptPart}
+use Rattle.mq_history.specs.declared.scripts.ScriptLine.{ScriptLine}
 use Rattle.mq_spec_node.specs.Terms.{Entry}
-use Rattle.mq_spec_node.specs.Words.{NoneForeign, more_entries}
+use Rattle.mq_spec_node.specs.Words.{NoneForeign, deadline, lines_done, more_entries, wait_of}
 use Rattle.mq_spec_network.specs.Given.{surroundings}
 use Rattle.mq_spec_network.specs.Lawful.{marks_at, marks_or, node_begun}
 use Rattle.mq_spec_network.specs.Steps.{AllInPhase}
-use Rattle.mq_spec_network.specs.Story.{entries_at, entries_or}
+use Rattle.mq_spec_network.specs.ScriptLines.{lines_left}
+use Rattle.mq_spec_network.specs.Story.{Mem, entries_at, entries_or}
 use Rattle.mq_spec_network.specs.Tasks.{Trying, moment_of, try_all, try_one}
 use Rattle.mq_spec_network.specs.Turns.{node_at, node_of}
 use Rattle.mq_spec_network.proofs.Going.{same_network}
@@ -25,10 +27,12 @@ use Rattle.mq_ways.specs.Ways.{CableState}
 use Rattle.mq_nodes.specs.declared.nodes.Stop.{Stop}
 use Rattle.mq_nodes.specs.declared.nodes.Stop.TheVariants as stops
 use Rattle.mq_nodes.specs.Course.{IsSpent, Ready, Rests, is_spent}
-use Rattle.mq_nodes.specs.Told.{Phased, PhaseTold}
+use Rattle.mq_nodes.specs.Told.{IsTried, KeptSo, Phased, PhaseTold}
 use Rattle.mq_course.specs.Courses.{marks_or_absent, net_of}
 use Rattle.mq_shared.specs.Held.{entries_or as entries_of_node}
-use Rattle.mq_shared.specs.Phasing.{MayPhase, NodeRan, PhaseEnds, PhaseOwn, PhaseRan, entries_in, moment_or, tries_in, tries_one}
+use Rattle.mq_shared.specs.Phasing.{MayPhase, NodeRan, among, if_among, PhaseEnds, PhaseOwn, PhaseRan, entries_in, moment_or, tries_in, tries_one}
+use Rattle.mq_shared.proofs.OutLaws.{first_is}
+use Rattle.mq_shared.proofs.ShareLists.{any_mem, mem_any}
 use Rattle.mq_world.specs.Worlds.{IsNetwork, IsNodeAt, NetState, StaysOwnIn, WaitsSo, course_in, history_in, until_of, waits_in}
 use Rattle.mq_world.proofs.LiftLaws.{ready_node}
 use Rattle.mq_world.proofs.ListLaws.{get_map, long_map, some_is, there}
@@ -64,6 +68,15 @@ may_phase w ks h ready rests phased = record {
 }
 
 -- WHAT THE TYPE KEEPS
+waits_so : (tried : Option ℕ) (ls : List ScriptLine) (n : ℕ) (l : ScriptLine) (until : Option ℕ) → slice_get ls n ≡ Some l → KeptSo tried (drop n ls) until → WaitsSo until l
+waits_so None ls n l until is h = subst (λ (u : Option ℕ). WaitsSo u l) (sym h) tt
+waits_so (Some moment) ls n l until is (inl h) = subst (λ (u : Option ℕ). WaitsSo u l) (sym h) tt
+waits_so (Some moment) ls n l until is (inr h) = subst (λ (u : Option ℕ). WaitsSo u l) (sym (h ∙ first_is moment l n ls is)) (by_wait (wait_of l) refl)
+  where
+    by_wait : (wait : Option ℕ) → wait_of l ≡ wait → WaitsSo (deadline moment wait) l
+    by_wait None e = tt
+    by_wait (Some x) e = subst IsSome (sym e) refl
+
 at_ran : (s : Scenario) (ts : List Trying) (m : ℕ) (since : List Entry) (n new : NodeState) → IsNodeAt s m n → NodeRan ts m since n new → IsNodeAt s m new
 at_ran s ts m since n new at d =
     let marks : length new.history.marks ≡ length n.history.marks = ap (λ (h : History). length h.marks) d.grows.history in
@@ -99,7 +112,7 @@ network_ran w ks r ns cs ways h x = record {
   scripts = λ k p c part found. let i = x.courses k p c part found in record {
     stands = subst (λ (es : List Entry). Stands k p es c) (same_entries ns p.manager) i.stands;
     few = i.few;
-    waits = λ l is. subst (λ (u : Option ℕ). WaitsSo u l) (sym i.rests) tt;
+    waits = λ l is. waits_so (if_among (among ks k) (moment_or (slice_get w.nodes p.manager))) p.lines c.done l c.until is i.rests;
   };
   lines = h.lines;
   joined = x.cables;
@@ -216,25 +229,41 @@ module _ (w : NetState) (ks : List ℕ) (r : Result (Unit {0}) Stop) (ns : List 
   kept : IsNetwork v
   kept = network_ran w ks r ns cs ways h x
 
-  -- another event may come, no get waits; or a node is spent
+  -- another event may come, no other get waits; or a node is spent
   ready : PhaseEnds (Ok tt) ns → Ready (course_in v).net
   ready each = ready_all w.scenario ns kept.nodes (λ m n known. let e = each m n known in record { served = e.0; may = e.1 })
 
-  rests : Rests (course_in v)
-  rests k = by_course (slice_get cs k) refl
+  rests : (k : ℕ) → (Mem k ks → ⊥) → waits_in v k ≡ None
+  rests k none = by_course (slice_get cs k) refl
     where
+      not_among : (b : Bool) → among ks k ≡ b → among ks k ≡ false
+      not_among true e = absurd (none (any_mem ks k e))
+      not_among false e = e
+
       by_course : (o : Option progress.Course) → slice_get cs k ≡ o → waits_in v k ≡ None
       by_course None e = ap until_of e
       by_course (Some c) e =
           let lt : k < length cs = slice_get_within cs k c e in
           let p = there w.scenario.scripts k (omega (arith, lt, x.scripts)) in
-          ap until_of e ∙ (x.courses k p.0 c p.1 e).rests
+          ap until_of e ∙ subst (λ (b : Bool). KeptSo (if_among b (moment_or (slice_get w.nodes p.0.manager))) (drop c.done p.0.lines) c.until) (not_among (among ks k) refl) (x.courses k p.0 c p.1 e).rests
+
+  -- what is left of a script of the phase was tried at the phase's moment
+  tried_then : (k : ℕ) (p : ScriptPart) → Mem k ks → slice_get w.scenario.scripts k ≡ Some p → IsTried k p (Some (moment_of (node_at (course_in w).net p.manager))) (course_in v)
+  tried_then k p member part =
+      let lt : k < length w.scenario.scripts = slice_get_within w.scenario.scripts k p part in
+      let found = there cs k (omega (arith, lt, x.scripts)) in
+      let c : progress.Course = found.0 in
+      let i = x.courses k p c part found.1 in
+      subst (λ (u : Option ℕ). KeptSo (Some (moment_of (node_at (course_in w).net p.manager))) (lines_left (course_in v).net k p) u) (sym (ap until_of found.1))
+      (subst (λ (n : ℕ). KeptSo (Some (moment_of (node_at (course_in w).net p.manager))) (drop n p.lines) c.until) (i.stands.done ∙ ap (lines_done k) (same_entries ns p.manager))
+      (subst (λ (m : ℕ). KeptSo (Some m) (drop c.done p.lines) c.until) (moment_same w.scenario w.nodes p.manager h.nodes)
+      (subst (λ (b : Bool). KeptSo (if_among b (moment_or (slice_get w.nodes p.manager))) (drop c.done p.lines) c.until) (mem_any ks k member) i.rests)))
 
   spent : (m : ℕ) → PhaseEnds (Err (stops.Spent m)) ns → IsSpent m (course_in v).net
   spent m e = ap is_spent (done_there ns m e.0 e.1) ∙ spent_there e.0 (kept.nodes m e.0 e.1).keeps ∙ e.2
 
   told : (q : Result (Unit {0}) Stop) → PhaseEnds q ns → PhaseTold ks q (course_in w) (course_in v)
-  told (Ok done) e = (phased, ready e, rests)
+  told (Ok done) e = (phased, ready e, record { others = rests; each = tried_then })
   told (Err stops.NoMemory) e = phased
   told (Err (stops.Spent m)) e = (phased, spent m e)
 

@@ -123,8 +123,8 @@ impl<D: Disk> Network<D> {
 
 impl<D: Disk + Send> Network<D> {
     /// Scripts and the ends of channels go on in threads: each manager does lines of these scripts, with turns and timeouts of its
-    /// channels' ends between them. No clock advances. Lines may be left, but no get waits any more. The gate is passed before each
-    /// try of a line.
+    /// channels' ends between them. No clock advances. Lines may be left; the next one of each of these scripts, where it is a get,
+    /// keeps its deadline. The gate is passed before each try of a line.
     ///
     /// # Errors
     ///

@@ -12,7 +12,8 @@ use std::sync::Wait;
 use std::thread::Threads;
 
 impl<D: Disk + Send> NetParts<D> {
-    /// Scripts, places in the scenario, and the ends of channels go on in threads. Behind it no get waits.
+    /// Scripts, places in the scenario, and the ends of channels go on in threads. Behind it the next line of each of these scripts that is a
+    /// get keeps its deadline, from the phase's moment; no other get waits.
     #[tactic(auto, using(crate::proofs::PhaseLaws::phase_tells, crate::proofs::PhaseLaws::phase_long))]
     pub fn run_phase<R: Threads + Wait + Sync, G: Gate + Sync>(
         &mut self,

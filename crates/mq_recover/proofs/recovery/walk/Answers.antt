@@ -1,21 +1,14 @@
-use Rattle.std.proofs.Common.{◌≡◌, true, refl, sym, ◌∙◌, arith}
-use Rattle.mq_spec_log.specs.Applies.{applies}
-use Rattle.mq_spec_log.specs.Records.{doing}
-use Rattle.mq_spec_log.specs.Bodies.{record_of}
-use Rattle.mq_recover.specs.Recovering.{seen}
-use Rattle.mq_recover.specs.Found.{start_in, given_as}
-use Rattle.mq_recover.proofs.WalkLaws.{went_on, behind_on, did}
+use Rattle.std.proofs.Common.{subst}
+use Rattle.std.specs.Prelude.{Ok, Err}
+use Rattle.mq_calls.specs.declared.image.Image.{Image}
+use Rattle.mq_spec_log.specs.Bodies.{image_from}
+use Rattle.mq_recover.specs.Found.{start_in, given_as, Told}
 use Rattle.mq_recover.proofs.recovery.walk.Goals as goal
 
-pub loop-split-preserved : goal.loop-split-preserved
-loop-split-preserved c =
-    let g = given_as c.args.manager c.args.name.now in
-    let done : c.in_ok-follow.field-0 ≡ true = grind arith in
-    let step = did (applies g (start_in c.args.start) c.in-Some-2.record (seen c.loop-split.told)) (doing c.in-Some-2.record (seen c.loop-split.told)) (seen c.follow.new.self) c.in_ok-follow.field-0 done c.in_ok-follow.ensures in
-    let is = sym c.in_ok-record.ensures ∙ c.in-Some-2.is in
-    record {
-      goes = λ all fits e. went_on g (start_in c.args.start) all c.loop-split.place c.loop-split.left.framed.now (seen c.loop-split.told) c.in-Some.split
-          (c.loop-split.invariant.goes all fits e) c.in-Some.ensures.walks (seen c.follow.new.self)
-          (behind_on g (start_in c.args.start) (seen c.loop-split.told) (seen c.follow.new.self) (record_of c.in-Some.split.body.now) c.in-Some-2.record is step.0 step.1) _ refl;
-      size = omega (arith, c.loop-split.invariant.size, c.in-Some.ensures.shorter);
-    }
+pub returns-in-Ok : goal.returns-in-Ok
+returns-in-Ok c = λ all fits e.
+    subst (λ (i : Image). Told (image_from (given_as c.args.manager c.args.name.now) (start_in c.args.start) 0 all i) (Ok c.walk_on.new.told)) c.new-told.ensures (c.in-Ok.ensures all fits e)
+
+pub returns-in-Err : goal.returns-in-Err
+returns-in-Err c = λ all fits e.
+    subst (λ (i : Image). Told (image_from (given_as c.args.manager c.args.name.now) (start_in c.args.start) 0 all i) (Err c.in-Err.fault)) c.new-told.ensures (c.in-Err.ensures all fits e)

@@ -254,7 +254,7 @@ returns-clause-ran g c =
     let long = long_whole c.args.passes.items c.args.cables.now in
     ran_over s ks ns cs ws ps b may is g.q ls c.from_vec.result c.from_vec-2.result c.lock_all-locks.new.courses c.take_all-wants.new.courses c.join_back.new.cables c.phase_ends.result asked lines count count_rows out
     (c.take_all-wants.ensures.long ∙ c.lock_all-locks.ensures.long) c.lock_all-locks.ensures.others c.take_all-wants.ensures.others
-    (subst (λ (l : List NodeState). AreBack g.q l c.take_all-wants.new.courses) (sym now) c.take_all-wants.ensures.back)
+    (subst (λ (l : List NodeState). AreBack g.q b l c.take_all-wants.new.courses) (sym now) c.take_all-wants.ensures.back)
     (c.join_back.ensures.all ∙ c.part_cables.ensures.all.1 ∙ sym long) c.join_back.ensures.joined c.phase_ends.ensures.ends
 
 pub returns-clause-own : goal.returns-clause-own

@@ -16,7 +16,7 @@ invariant-loop-lock g l = record {
   free : l.wants ≡ false → AllFree l.ends.items;
   long : length l.courses ≡ length l.fn.courses;
   others : OthersStay g.a l.fn.courses l.courses;
-  back : AreBack g.a l.nodes.items l.courses;
+  back : AreBack g.a g.P.PhaseName.begun l.nodes.items l.courses;
 }
 
 abbrev pub decreases-loop-lock : goal.decreases-loop-lock

@@ -14,5 +14,8 @@ returns-in_default g c = nothing_asked _ (g.N.Nodes.course c.args.nodes.now) tt 
 pub lines-requires-clause-manager : goal.lines-requires-clause-manager
 lines-requires-clause-manager g c = subst (λ (s : Scenario). c.in-Some.part.now.manager < length s.managers) (sym c.requires.same) (at_it (λ (p : ScriptPart). p.manager < length c.args.scenario.now.managers) c.args.scenario.now.scripts _ _ c.requires.scripts (sym c.in-Some.ensures))
 
+pub lines-requires-clause-rests : goal.lines-requires-clause-rests
+lines-requires-clause-rests g c = c.requires.rests c.args.script
+
 pub returns : goal.returns
-returns g c = ran_script c.args.script c.in-Some.part.now _ c.args.most c.number.result c.lines.result (g.N.Nodes.course c.args.nodes.now) (g.N.Nodes.course c.lines.new.nodes) c.requires.ready (ap (slice_get c.args.scenario.now.scripts) (sym c.from.ensures) ∙ sym c.in-Some.ensures) (c.number.ensures ∙ ap (number_or c.args.most) c.len.ensures) c.lines.ensures
+returns g c = ran_script c.args.script c.in-Some.part.now _ c.args.most c.number.result c.lines.result (g.N.Nodes.course c.args.nodes.now) (g.N.Nodes.course c.lines.new.nodes) c.requires.ready (ap (slice_get c.args.scenario.now.scripts) (sym c.from.ensures) ∙ sym c.in-Some.ensures) (c.number.ensures ∙ ap (number_or c.args.most) c.len.ensures) c.lines.ensures.0
