@@ -1,4 +1,5 @@
--- What each call of a manager forces has what nothing has, and each unit and each moved message; a channel's record, and what a command changes of objects, apart.
+-- What each call of a manager forces: what holds of nothing, of each unit and of each moved message holds of it. A channel's record has it where the
+-- channel's call is asked for it; what a command forces stands apart.
 use Rattle.std.proofs.Common.{ℕ, Bool, true, false, List, [], ◌∷◌, ◌++◌, length}
 use Rattle.std.specs.Prelude.{Option, Some, None, Result, Ok, Err, not, ◌||◌, if◌then◌else◌, filter}
 use Rattle.mq_codes.specs.declared.reason.Reason.{Reason}
