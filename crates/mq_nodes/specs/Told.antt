@@ -137,10 +137,10 @@ abbrev pub first_until : ℕ → List ScriptLine → Option ℕ
 first_until moment [] = None
 first_until moment (l ∷ ls) = deadline moment (wait_of l)
 
--- What is kept of a script's next line: nothing, or, where it was tried before, its deadline from the moment of that try.
+-- What is kept of a script's next line: nothing, where it was not tried; else its deadline from the moment of that try.
 abbrev pub KeptSo : Option ℕ → List ScriptLine → Option ℕ → Type 0
 KeptSo None ls kept = kept ≡ None
-KeptSo (Some moment) ls kept = (kept ≡ None) ⊎ (kept ≡ first_until moment ls)
+KeptSo (Some moment) ls kept = kept ≡ first_until moment ls
 
 abbrev pub IsTried : ℕ → ScriptPart → Option ℕ → Course → Type 0
 IsTried k p tried c = KeptSo tried (lines_left c.net k p) (c.waits k)

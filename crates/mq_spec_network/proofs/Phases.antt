@@ -170,10 +170,10 @@ no_clock h = h
 
 -- A get that waits 500 milliseconds, tried first at moment 0 or at 200.
 tried_now : IsUntil None 0 (Some 500) (Some 500)
-tried_now = inl refl
+tried_now = refl
 
 tried_before : IsUntil (Some 0) 200 (Some 500) (Some 500)
-tried_before = inr refl
+tried_before = refl
 
 abbrev or_zero : Option ℕ → ℕ
 or_zero None = 0
@@ -183,5 +183,7 @@ not_later : ◌≡◌ {A = ℕ} 500 700 → ⊥
 not_later e = omega arith
 
 not_from_another_moment : IsUntil None 200 (Some 500) (Some 500) → ⊥
-not_from_another_moment (inl e) = not_later (ap or_zero e)
-not_from_another_moment (inr none) = none
+not_from_another_moment e = not_later (ap or_zero e)
+
+not_from_the_callers_moment : IsUntil (Some 0) 200 (Some 500) (Some 700) → ⊥
+not_from_the_callers_moment e = not_later (ap or_zero (sym e))

@@ -1,5 +1,5 @@
 -- The lines of a script in a network: those that are left, the next call, and whether its get would still wait.
-use Rattle.std.specs.Prelude.{◌≡◌, ◌⊎◌, ℕ, Bool, List, Option, Some, None, take}
+use Rattle.std.specs.Prelude.{◌≡◌, ℕ, Bool, List, Option, Some, None, take}
 use Rattle.mq_spec_network.specs.Terms.{Call, ScriptPart, ScriptLine, deadline, left_after, call_after, is_none}
 use Rattle.mq_frame.specs.declared.frame.Seen.TheVariants as items
 use Rattle.mq_history.specs.declared.calls.Actor.TheVariants as actors
@@ -15,13 +15,14 @@ abbrev pub at_most : Option ℕ → List ScriptLine → List ScriptLine
 at_most None ls = ls
 at_most (Some n) ls = take n ls
 
--- The deadline of a get, from the moment of its first try: this one, or one at which it was tried before.
-abbrev pub TriedBefore : Option ℕ → Option ℕ → Option ℕ → Type 0
-TriedBefore None wait until = ⊥
-TriedBefore (Some moment) wait until = until ≡ deadline moment wait
+-- The moment of a line's first try: that at which it was tried before, else this one.
+abbrev pub moment_of_try : Option ℕ → ℕ → ℕ
+moment_of_try None moment = moment
+moment_of_try (Some before) moment = before
 
+-- The deadline of a get counts from its first try.
 abbrev pub IsUntil : Option ℕ → ℕ → Option ℕ → Option ℕ → Type 0
-IsUntil tried moment wait until = (until ≡ deadline moment wait) ⊎ TriedBefore tried wait until
+IsUntil tried moment wait until = until ≡ deadline (moment_of_try tried moment) wait
 
 -- A get that would still wait is no event.
 abbrev pub still_waits : Network → ℕ → ScriptPart → Call → Bool
