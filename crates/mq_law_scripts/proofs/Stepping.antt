@@ -16,7 +16,7 @@ use Rattle.mq_spec_node.specs.Scripts.{AreLines, IsDeadline, deadline, fresh, un
 use Rattle.mq_spec_node.specs.Lines.{lines_by, left_after, call_after, memory_by}
 use Rattle.mq_spec_network.specs.Story.{Mem}
 use Rattle.mq_spec_network.specs.Turns.{Network, does, node_at}
-use Rattle.mq_spec_network.specs.ScriptLines.{lines_left, at_most, call_next, IsUntil}
+use Rattle.mq_spec_network.specs.ScriptLines.{lines_left, at_most, call_next, IsUntil, moment_of_try}
 use Rattle.mq_spec_network.specs.Tasks.{Slot, Task, Trying, clocks, clocks_from, moment_of, tasks_of, tasks_next}
 use Rattle.mq_spec_network.specs.Tasks.Slot.{Sends, Receives, TimesOut}
 use Rattle.mq_spec_network.specs.Tasks.Task.{Ask, Script, Lines, Phase, Pump, Handle, Serve, Watch, Open, Restart}
@@ -40,9 +40,7 @@ quiet w m e ts none all plain = (none_all w m e none all, plain_fits (does m (e 
 
 -- A deadline from the moment of a first try.
 due_by : (tried : Option ℕ) (moment : ℕ) (wait until : Option ℕ) → IsUntil tried moment wait until → IsDeadline wait until
-due_by tried moment wait until (inl h) = (moment, h)
-due_by None moment wait until (inr h) = absurd h
-due_by (Some first) moment wait until (inr h) = (first, h)
+due_by tried moment wait until h = (moment_of_try tried moment, h)
 
 -- A script's next line of those that were asked.
 next_line : (w : Network) (k : ℕ) (p : ScriptPart) (tried : Option ℕ) (l : ScriptLine) (ls : List ScriptLine) (ts : List Task) (m : ℕ) (e : Entry) → AllLines w → AreNext w k p (l ∷ ls) ts → IsNext w k p tried l m e → Steps w m e (Lines k p None ls ∷ ts)

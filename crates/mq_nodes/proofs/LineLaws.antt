@@ -1,5 +1,5 @@
 -- A script's next line: how each answer of the call that does it goes on, and a get that waits.
-use Rattle.std.specs.Prelude.{filter, not, if◌then◌else◌, ◌≡◌, ◌⊎◌, ◌==◌, ℕ, suc, Bool, true, false, List, [], ◌∷◌, Option, Some, None, Result, Ok, Err, take, drop, refl}
+use Rattle.std.specs.Prelude.{filter, not, if◌then◌else◌, ◌≡◌, ◌==◌, ℕ, suc, Bool, true, false, List, [], ◌∷◌, Option, Some, None, Result, Ok, Err, take, drop, refl}
 use Rattle.std.proofs.Common.{ap, subst, sym, arith, inl, inr, ◌∙◌}
 use Rattle.std.proofs.lemmas.Bool.Decides.{nat_tests}
 use Rattle.mq_history.specs.declared.calls.Actor.TheVariants as actors
@@ -35,20 +35,20 @@ pub record SaysUntil (moment : ℕ) (label : List ℕ) (m : Memory) (until : Opt
   pub call_is : line_call label m until l ≡ line_call label m (until_of (line_call label m until l)) l
 
 pub says_until : (moment : ℕ) (label : List ℕ) (m : Memory) (until : Option ℕ) (l : ScriptLine) → until ≡ deadline moment (wait_of l) → SaysUntil moment label m until l
-says_until moment label m until (lines.Mqconn name) h = record { until_is = inl refl; call_is = refl }
-says_until moment label m until lines.Mqdisc h = record { until_is = inl refl; call_is = refl }
-says_until moment label m until lines.Mqcmit h = record { until_is = inl refl; call_is = refl }
-says_until moment label m until lines.Mqback h = record { until_is = inl refl; call_is = refl }
-says_until moment label m until (lines.Mqopen handle name qmgr how) h = record { until_is = inl refl; call_is = refl }
-says_until moment label m until (lines.Mqclose handle) h = record { until_is = inl refl; call_is = refl }
-says_until moment label m until (lines.Mqput handle body o) h = record { until_is = inl refl; call_is = refl }
-says_until moment label m until (lines.Mqput1 name qmgr body o) h = record { until_is = inl refl; call_is = refl }
-says_until moment label m until (lines.Reply body o) h = record { until_is = inl refl; call_is = refl }
-says_until moment label m until (lines.Mqget handle o) h = record { until_is = inl h; call_is = refl }
-says_until moment label m until (lines.Mqsc command) h = record { until_is = inl refl; call_is = refl }
-says_until moment label m until lines.Crash h = record { until_is = inl refl; call_is = refl }
-says_until moment label m until lines.Restart h = record { until_is = inl refl; call_is = refl }
-says_until moment label m until (lines.Cut k) h = record { until_is = inl refl; call_is = refl }
+says_until moment label m until (lines.Mqconn name) h = record { until_is = refl; call_is = refl }
+says_until moment label m until lines.Mqdisc h = record { until_is = refl; call_is = refl }
+says_until moment label m until lines.Mqcmit h = record { until_is = refl; call_is = refl }
+says_until moment label m until lines.Mqback h = record { until_is = refl; call_is = refl }
+says_until moment label m until (lines.Mqopen handle name qmgr how) h = record { until_is = refl; call_is = refl }
+says_until moment label m until (lines.Mqclose handle) h = record { until_is = refl; call_is = refl }
+says_until moment label m until (lines.Mqput handle body o) h = record { until_is = refl; call_is = refl }
+says_until moment label m until (lines.Mqput1 name qmgr body o) h = record { until_is = refl; call_is = refl }
+says_until moment label m until (lines.Reply body o) h = record { until_is = refl; call_is = refl }
+says_until moment label m until (lines.Mqget handle o) h = record { until_is = h; call_is = refl }
+says_until moment label m until (lines.Mqsc command) h = record { until_is = refl; call_is = refl }
+says_until moment label m until lines.Crash h = record { until_is = refl; call_is = refl }
+says_until moment label m until lines.Restart h = record { until_is = refl; call_is = refl }
+says_until moment label m until (lines.Cut k) h = record { until_is = refl; call_is = refl }
 
 -- What comes next is this line's call, or it waits.
 made : (k : ℕ) (p : ScriptPart) (b : Bool) (until : Option ℕ) (call : Call) (m : ℕ) (e : Entry) → IsLine k p (next_if b until call) m e → Is p.manager (actors.Script k) call m e
@@ -76,21 +76,13 @@ kept_same : (first moment : ℕ) (wait : Option ℕ) → deadline_kept (deadline
 kept_same first moment None = refl
 kept_same first moment (Some wait) = refl
 
-tried_now : (tried : Option ℕ) (moment : ℕ) (wait kept : Option ℕ) → kept ≡ None → FirstTry tried moment wait kept
-tried_now tried moment wait kept h = record { first = moment; kept_is = ap (λ (x : Option ℕ). deadline_kept x moment wait) h; is = inl refl }
-
 pub first_try : (tried : Option ℕ) (moment : ℕ) (l : ScriptLine) (ls : List ScriptLine) (kept : Option ℕ) → KeptSo tried (l ∷ ls) kept → FirstTry tried moment (wait_of l) kept
-first_try None moment l ls kept h = tried_now None moment (wait_of l) kept h
-first_try (Some first) moment l ls kept (inl h) = tried_now (Some first) moment (wait_of l) kept h
-first_try (Some first) moment l ls kept (inr h) = record {
+first_try None moment l ls kept h = record { first = moment; kept_is = ap (λ (x : Option ℕ). deadline_kept x moment (wait_of l)) h; is = refl }
+first_try (Some first) moment l ls kept h = record {
   first = first;
   kept_is = ap (λ (x : Option ℕ). deadline_kept x moment (wait_of l)) h ∙ kept_same first moment (wait_of l);
-  is = inr refl;
+  is = refl;
 }
-
-pub only : {A : Type 0} → A ⊎ ⊥ → A
-only (inl x) = x
-only (inr x) = absurd x
 
 -- The next line of a script at its node, which may keep the deadline of a get.
 next_line : (k : ℕ) (p : ScriptPart) (tried : Option ℕ) (w : Network) (n : Node) (l : ScriptLine) (kept : Option ℕ) (m : ℕ) (e : Entry) → node_at w p.manager ≡ Some n → FirstTry tried n.manager.moment (wait_of l) kept
@@ -101,7 +93,7 @@ next_line k p tried w n l kept m e there f h =
     record {
       until = subst (λ (x : Option Node). IsUntil tried (moment_of x) (wait_of l) (until_of e.call)) (sym there)
           (subst (λ (x : Call). IsUntil tried n.manager.moment (wait_of l) (until_of x)) (sym is.2)
-          (subst (λ (x : Option ℕ). IsUntil tried n.manager.moment (wait_of l) x) (sym (only t.until_is)) f.is));
+          (subst (λ (x : Option ℕ). IsUntil tried n.manager.moment (wait_of l) x) (sym t.until_is) f.is));
       is = (is.0, is.1, is.2 ∙ t.call_is ∙ ap (λ (x : Call). call_next w k p (until_of x) l) (sym is.2));
     }
   where
@@ -205,8 +197,7 @@ none_kept tried ls kept e h = empty tried (subst (λ (xs : List ScriptLine). Kep
   where
     empty : (t : Option ℕ) → KeptSo t [] kept → kept ≡ None
     empty None x = x
-    empty (Some first) (inl x) = x
-    empty (Some first) (inr x) = x
+    empty (Some first) x = x
 
 -- As the goals have them: the call answered that a line is done, that none is left, or that it broke off.
 pub by_node : (k : ℕ) (p : ScriptPart) (c d : Course) (r : Result Advanced Stop) → LineTold k p r c d

@@ -31,7 +31,7 @@ use Rattle.mq_nodes.specs.declared.nodes.Advanced.TheVariants as advances
 use Rattle.mq_nodes.specs.Course.{Course, Did, Ready, Rests, waiting, waits_then}
 use Rattle.mq_nodes.specs.Told.{Part, Ended, Onward, OneLine, LineTold, LineAt, LineOf, IsTried, KeptSo, Alone, Clocked, later, upto}
 use Rattle.mq_nodes.proofs.GetLaws.{get_comes}
-use Rattle.mq_nodes.proofs.LineLaws.{FirstTry, first_try, only, says_until, waits_so, by_node, did_alone, itself, bool_case, lines_of}
+use Rattle.mq_nodes.proofs.LineLaws.{FirstTry, first_try, says_until, waits_so, by_node, did_alone, itself, bool_case, lines_of}
 
 -- The get of a script that waits until a moment, at its node.
 pub record IsWaiting (k : ℕ) (p : ScriptPart) (tried : Option ℕ) (u : ℕ) (w : Network) (n : Node) (l : ScriptLine) (ls : List ScriptLine) : Type 0 where
@@ -242,7 +242,7 @@ is_next : (k : ℕ) (p : ScriptPart) (tried : Option ℕ) (u : ℕ) (c d e : Cou
 is_next k p tried u c d e w by_lines m f h =
     let t = says_until w.is.first p.label (memory_by k p (c.net.done p.manager)) (Some u) w.line (sym w.is.until) in
     record {
-      until = inr (subst (λ (x : Call). until_of x ≡ deadline w.is.first (wait_of w.line)) (sym h.2) (only t.until_is));
+      until = subst (λ (x : Call). until_of x ≡ deadline w.is.first (wait_of w.line)) (sym h.2) t.until_is;
       is = (h.0, h.1, h.2 ∙ t.call_is ∙ ap (λ (x : Call). call_next c.net k p (until_of x) w.line) (sym h.2) ∙ sym (same_call k p c.net e.net (until_of f.call) w.line by_lines));
     }
 

@@ -1,7 +1,7 @@
 -- A scenario of one manager, one section and one script: what it does is a lawful story, every step whole, and its ledger
 -- holds what its queue holds.
 use Rattle.std.specs.Prelude.{◌≡◌, ◌≢◌, ◌<◌, ◌≤◌, ℕ, zero, suc, ◌==◌, pos, negsuc, false, List, [], ◌∷◌, Option, Some, None, slice_get, drop, replicate, length, take, map, codes, refl}
-use Rattle.std.proofs.Common.{ap, subst, arith, inl, ◌∙◌}
+use Rattle.std.proofs.Common.{ap, subst, arith, ◌∙◌}
 use Rattle.std.proofs.lemmas.Bool.Decides.{nat_tests}
 use Rattle.mq_queue.specs.declared.row.Row.{Row}
 use Rattle.mq_objects.specs.declared.command.Subject.TheVariants as subjects
@@ -241,16 +241,16 @@ abbrev IsLeft : Network → List Task → Type 0
 IsLeft w ts = Goes network1 (tasks_of network1 (steps.Run 0 None)) w ts
 
 line1 : IsNext network1 0 script_a None (lines.Mqconn []) 0 (entry 2 (actors.Script 0) connects obeyed)
-line1 = record { until = inl refl; is = (refl, refl, refl) }
+line1 = record { until = refl; is = (refl, refl, refl) }
 
 line2 : IsNext network2 0 script_a None (lines.Mqopen (codes "H1") (codes "Q1") [] shared_output) 0 (entry 3 (actors.Script 0) opens connected)
-line2 = record { until = inl refl; is = (refl, refl, refl) }
+line2 = record { until = refl; is = (refl, refl, refl) }
 
 line3 : IsNext network3 0 script_a None (lines.Mqput (codes "H1") (bodies.Text (codes "HELLO")) put_options) 0 (entry 4 (actors.Script 0) puts opened)
-line3 = record { until = inl refl; is = (refl, refl, refl) }
+line3 = record { until = refl; is = (refl, refl, refl) }
 
 line4 : IsNext network4 0 script_a None (lines.Mqget (codes "H1") get_options) 0 (entry 5 (actors.Script 0) gets has_put)
-line4 = record { until = inl refl; is = (refl, refl, refl) }
+line4 = record { until = refl; is = (refl, refl, refl) }
 
 begun : IsLeft network1 (Lines 0 script_a None script ∷ [])
 begun = passes network1 (Script 0 script_a None None) (Lines 0 script_a None script ∷ []) [] stays served1 refl

@@ -1,7 +1,6 @@
 -- A monitor that is served: a put triggers its queue, the monitor's get begins the script that the trigger message names,
 -- and that script runs to its end.
 use Rattle.std.specs.Prelude.{◌≡◌, ℕ, true, false, List, [], ◌∷◌, Some, None, codes, refl}
-use Rattle.std.proofs.Common.{inl}
 use Rattle.mq_heads.specs.Headers.{tm_read, tm_bytes, tm_in}
 use Rattle.mq_message.specs.Layout.{long_bytes, long_of}
 use Rattle.mq_objects.specs.declared.object.Object.{Object}
@@ -187,7 +186,7 @@ has_lines : IsLeft served (Lines 1 script_b None (lines.Mqconn [] ∷ []) ∷ Se
 has_lines = passes served (Script 1 script_b None None) (Lines 1 script_b None (lines.Mqconn [] ∷ []) ∷ []) (Serve 0 monitor 4 ∷ []) has_got none_due_then refl
 
 b_line : Moves served (Lines 1 script_b None (lines.Mqconn [] ∷ [])) 0 ran
-b_line = record { until = inl refl; is = (refl, refl, refl) }
+b_line = record { until = refl; is = (refl, refl, refl) }
 
 has_run : IsLeft done (Lines 1 script_b None [] ∷ Serve 0 monitor 4 ∷ [])
 has_run = moves served (Lines 1 script_b None (lines.Mqconn [] ∷ [])) (Serve 0 monitor 4 ∷ []) 0 ran has_lines b_line

@@ -1,6 +1,6 @@
 -- A RUN whose get waits: the clock of each manager advances to its deadline, and then it comes.
 use Rattle.std.specs.Prelude.{◌≡◌, ℕ, false, List, [], ◌∷◌, Some, None, codes, refl}
-use Rattle.std.proofs.Common.{inl, sym, ◌∙◌}
+use Rattle.std.proofs.Common.{sym, ◌∙◌}
 use Rattle.mq_objects.specs.declared.object.Object.{Object}
 use Rattle.mq_objects.specs.declared.command.Subject.TheVariants as subjects
 use Rattle.mq_calls.specs.declared.answers.Take.TheVariants as takes
@@ -129,10 +129,10 @@ abbrev IsLeft : Network → List Task → Type 0
 IsLeft w ts = Goes network0 (tasks_of network0 (steps.Run 0 None)) w ts
 
 line1 : IsNext network0 0 script None (lines.Mqconn []) 0 (entry 1 (actors.Script 0) connects node0)
-line1 = record { until = inl refl; is = (refl, refl, refl) }
+line1 = record { until = refl; is = (refl, refl, refl) }
 
 line2 : IsNext network1 0 script None (lines.Mqopen (codes "H1") (codes "Q1") [] shared) 0 (entry 2 (actors.Script 0) opens node1)
-line2 = record { until = inl refl; is = (refl, refl, refl) }
+line2 = record { until = refl; is = (refl, refl, refl) }
 
 begun : IsLeft network0 (Lines 0 script None script.lines ∷ [])
 begun = passes network0 (Script 0 script None None) (Lines 0 script None script.lines ∷ []) [] stays served0 refl
@@ -151,7 +151,7 @@ abbrev behind : List Task
 behind = Ask 0 (actors.Script 0) gets ∷ Lines 0 script None [] ∷ []
 
 it_waits : Waits network2 0 script None the_get [] (Ask 0 actors.Clock advances ∷ Ask 1 actors.Clock advances ∷ behind)
-it_waits = record { until = 500; by = 500; tried_then = inl refl; waits = refl; left = refl; behind = refl }
+it_waits = record { until = 500; by = 500; tried_then = refl; waits = refl; left = refl; behind = refl }
 
 clocks_are_due : IsLeft network2 (Ask 0 actors.Clock advances ∷ Ask 1 actors.Clock advances ∷ behind)
 clocks_are_due = passes network2 (Lines 0 script None (the_get ∷ [])) (Ask 0 actors.Clock advances ∷ Ask 1 actors.Clock advances ∷ behind) [] two_lines served2 it_waits

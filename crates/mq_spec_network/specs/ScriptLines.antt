@@ -16,13 +16,13 @@ at_most None ls = ls
 at_most (Some n) ls = take n ls
 
 -- The moment of a line's first try: that at which it was tried before, else this one.
-abbrev pub first_moment : Option ℕ → ℕ → ℕ
-first_moment None moment = moment
-first_moment (Some before) moment = before
+abbrev pub moment_of_try : Option ℕ → ℕ → ℕ
+moment_of_try None moment = moment
+moment_of_try (Some before) moment = before
 
 -- The deadline of a get counts from its first try.
 abbrev pub IsUntil : Option ℕ → ℕ → Option ℕ → Option ℕ → Type 0
-IsUntil tried moment wait until = until ≡ deadline (first_moment tried moment) wait
+IsUntil tried moment wait until = until ≡ deadline (moment_of_try tried moment) wait
 
 -- A get that would still wait is no event.
 abbrev pub still_waits : Network → ℕ → ScriptPart → Call → Bool

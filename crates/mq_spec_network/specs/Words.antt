@@ -8,7 +8,7 @@ pub use Rattle.mq_spec_network.specs.Order.{Before, Forced, sent_idents, forced_
 pub use Rattle.mq_spec_network.specs.Apart.{first_of, case, sender_at, receiver_at, is_other, is_above, doubt_case, cable_cases, cable_apart, cables_apart, idents_in, row_idents, standing_idents, known, maker, newer_case, ident_case, idents_apart, apart_of, apart, IsJoined}
 pub use Rattle.mq_spec_network.specs.Cables.{Lying, whole, spoiled, made, offered_if, offered_by, is_popped, pops_of, pops_item, Takes, Carries, lying}
 pub use Rattle.mq_spec_network.specs.Turns.{Network, node_of, node_at, more_at, does, is_up_at, out_of, back_of, waiting, is_empty, is_full, where_there, deed_at, Direction, out_way, back_way, next_number, put_now, due_of, push_refused, extras_of, refused_by, changes, sender_turn, receiver_turn, timeout_turn, is_refused, sender_blocked, receiver_blocked, rests, sender_rests, owes_nothing, sender_idle, receiver_idle, cable_idle, idle_from, is_idle}
-pub use Rattle.mq_spec_network.specs.ScriptLines.{lines_left, call_next, at_most, first_moment, IsUntil, still_waits}
+pub use Rattle.mq_spec_network.specs.ScriptLines.{lines_left, call_next, at_most, moment_of_try, IsUntil, still_waits}
 pub use Rattle.mq_spec_network.specs.Tasks.{Slot, Trying, Task, obey_all, clocks_from, clocks, moment_of, obey_section, run_script, handle_with, watch_by, serve_by, try_one, try_all, finish, tasks_of, restarts_from, tasks_next}
 pub use Rattle.mq_spec_network.specs.Steps.{Is, IsNext, Waits, PhaseLine, InPhase, AllInPhase, Turn, turn_in, pushed_of, popped_by, TakesTurn, PumpTakes, pump_on, next_round, PumpSkips, handler_idle, serves_nothing, MonitorGets, scripts_at, begun, is_watching, opens, gives_up, is_cut, once_more, Moves, left_by, Passes, none_due, Served, Goes, AreTriggers}
 pub use Rattle.mq_spec_network.specs.Lawful.{IsHistory, IsCarried, ScriptIs, marks_or, marks_at, node_begun, network_begun, handles_idle, ends_idle, mark_of, Went, Stands, IsFar, AreSteps, IsLawful, AreOwn, IsDone}
