@@ -18,7 +18,6 @@ use Rattle.mq_spec_network.specs.Tasks.Task.{Ask, Restart}
 use Rattle.mq_spec_network.specs.Steps.{Goes, Is, is_cut, once_more}
 use Rattle.mq_spec_network.specs.Lawful.{Went, Stands, IsFar, AreSteps, IsDone, ends_idle, mark_of}
 use Rattle.mq_spec_network.specs.Lawful.Went.{begins as went_begins, ends as went_ends}
-use Rattle.mq_spec_network.proofs.Going.{on}
 use Rattle.mq_spec_network.proofs.Standing.{starts, goes_on, marked}
 use Rattle.mq_nodes.specs.declared.nodes.Stop.{Stop}
 use Rattle.mq_nodes.specs.declared.nodes.Stop.TheVariants as stops
