@@ -12,9 +12,9 @@ use Rattle.mq_disk.specs.declared.cutter.Stop.{Stop}
 use Rattle.mq_disk.specs.declared.cutter.Stop.TheVariants as stops
 use Rattle.mq_spec_node.specs.Terms.{Reason, Answer, Did, Reply, Part, Step, Refuse, Do, Possible, stopped_at, delta_before, do_all}
 use Rattle.mq_calls.specs.Steps.{IsWrite}
-use Rattle.mq_calls.specs.Meeting.{ManagerValue, untouched, Wants, MeetsAs, StoppedIn}
+use Rattle.mq_calls.specs.Meeting.{ManagerValue, untouched, Wants, WantsBefore, MeetsAs, StoppedIn}
 use Rattle.mq_calls.specs.Meeting.Wants.{Nowhere, Behind, Anywhere}
-use Rattle.mq_spec_node.specs.Words.{Node, Own, Deed, node_of, mqi_deed, ended_deed, CanCome}
+use Rattle.mq_spec_node.specs.Words.{Node, Own, Deed, node_of, told as said, mqi_deed, ended_deed, CanCome}
 use Rattle.mq_events.specs.declared.outcome.Outcome.{Outcome}
 use Rattle.mq_message.specs.declared.message.Md.{Md}
 use Rattle.mq_base.specs.declared.want.NoMemory.{NoMemory as Want}
@@ -62,10 +62,11 @@ module _ {T : Type 0} (f : Answer T → Reply) (own : Own) (old new : ManagerVal
         received = r;
       }
 
-  pub behind : (step : Step Reason (Answer T)) (ended : Result (Answer T) (Halt Reason)) → StepIsNumbered step → MeetsAs Behind old step ended new
-      → Came (mqi_deed f own step) (node_of old.plain own) (outcome_by (choice_by ended new.delta new.plain.log.armed) (reply_by f ended) new.delta) new.plain
-  behind (Refuse reason) (Ok value) n m = absurd m
-  behind (Refuse reason) (Err (halts.Refused other)) n m = record {
+  -- it was refused, where no want of memory takes the refusal's place
+  refused : (wants : Wants) (reason : Reason) (ended : Result (Answer T) (Halt Reason)) → (WantsBefore wants old new → ⊥) → MeetsAs wants old (Refuse reason) ended new
+      → Came (said (f (answers.Failed reason)) own) (node_of old.plain own) (outcome_by (choice_by ended new.delta new.plain.log.armed) (reply_by f ended) new.delta) new.plain
+  refused wants reason (Ok value) none m = absurd m
+  refused wants reason (Err (halts.Refused other)) none m = record {
     can = nothing_possible old.plain.log.armed;
     reply = ap (λ r. reply_by f (Err (halts.Refused r))) m.0;
     delta = ap (λ (v : ManagerValue). v.delta) m.1;
@@ -74,17 +75,26 @@ module _ {T : Type 0} (f : Answer T → Reply) (own : Own) (old new : ManagerVal
     pushed = refl;
     received = refl;
   }
-  behind (Refuse reason) (Err halts.NoMemory) n m = absurd m
-  behind (Refuse reason) (Err (halts.Stopped by)) n m = absurd m
-  behind (Do reply parts) (Ok value) n m = record {
+  refused wants reason (Err halts.NoMemory) none m = absurd (none m)
+  refused wants reason (Err (halts.Stopped by)) none m = absurd m
+
+  -- all its parts are done
+  ran : (wants : Wants) (d : Deed) (reply value : Answer T) → d.reply ≡ f reply → d.own ≡ own → d.pushed ≡ None → d.received ≡ [] → MeetsAs {F = Reason} wants old (Do reply d.parts) (Ok value) new
+      → Came d (node_of old.plain own) (outcome_by Runs (f value) new.delta) new.plain
+  ran wants d reply value is o p r m = record {
     can = m.1;
-    reply = ap f m.0;
+    reply = ap f m.0 ∙ sym is;
     delta = ap (λ (v : ManagerValue). v.delta) m.3;
     manager = ap (λ (v : ManagerValue). v.plain) m.3;
-    own = refl;
-    pushed = refl;
-    received = refl;
+    own = o;
+    pushed = p;
+    received = r;
   }
+
+  pub behind : (step : Step Reason (Answer T)) (ended : Result (Answer T) (Halt Reason)) → StepIsNumbered step → MeetsAs Behind old step ended new
+      → Came (mqi_deed f own step) (node_of old.plain own) (outcome_by (choice_by ended new.delta new.plain.log.armed) (reply_by f ended) new.delta) new.plain
+  behind (Refuse reason) ended n m = refused Behind reason ended (λ z. z) m
+  behind (Do reply parts) (Ok value) n m = ran Behind (mqi_deed f own (Do reply parts)) reply value refl refl refl refl m
   behind (Do reply parts) (Err (halts.Refused other)) n m = absurd m
   behind (Do reply parts) (Err halts.NoMemory) n m = record {
     can = tt;
@@ -99,27 +109,8 @@ module _ {T : Type 0} (f : Answer T → Reply) (own : Own) (old new : ManagerVal
 
   pub nowhere : (step : Step Reason (Answer T)) (ended : Result (Answer T) (Halt Reason)) → StepIsNumbered step → MeetsAs Nowhere old step ended new
       → Came (ended_deed f own step) (node_of old.plain own) (outcome_by (choice_by ended new.delta new.plain.log.armed) (reply_by f ended) new.delta) new.plain
-  nowhere (Refuse reason) (Ok value) n m = absurd m
-  nowhere (Refuse reason) (Err (halts.Refused other)) n m = record {
-    can = nothing_possible old.plain.log.armed;
-    reply = ap (λ r. reply_by f (Err (halts.Refused r))) m.0;
-    delta = ap (λ (v : ManagerValue). v.delta) m.1;
-    manager = ap (λ (v : ManagerValue). v.plain) m.1;
-    own = refl;
-    pushed = refl;
-    received = refl;
-  }
-  nowhere (Refuse reason) (Err halts.NoMemory) n m = absurd m
-  nowhere (Refuse reason) (Err (halts.Stopped by)) n m = absurd m
-  nowhere (Do reply parts) (Ok value) n m = record {
-    can = m.1;
-    reply = ap f m.0;
-    delta = ap (λ (v : ManagerValue). v.delta) m.3;
-    manager = ap (λ (v : ManagerValue). v.plain) m.3;
-    own = refl;
-    pushed = refl;
-    received = refl;
-  }
+  nowhere (Refuse reason) ended n m = refused Nowhere reason ended (λ z. z) m
+  nowhere (Do reply parts) (Ok value) n m = ran Nowhere (ended_deed f own (Do reply parts)) reply value refl refl refl refl m
   nowhere (Do reply parts) (Err (halts.Refused other)) n m = absurd m
   nowhere (Do reply parts) (Err halts.NoMemory) n m = absurd m
   nowhere (Do reply parts) (Err (halts.Stopped by)) n m = stopped (ended_deed f own (Do reply parts)) by refl refl refl n m

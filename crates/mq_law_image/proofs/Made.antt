@@ -19,10 +19,11 @@ use Rattle.mq_calls.specs.State.{Plain}
 use Rattle.mq_calls.specs.Reads.{is_up}
 use Rattle.mq_calls.specs.Images.{lasting}
 use Rattle.mq_calls.specs.declared.image.Image.{Image}
-use Rattle.mq_calls.specs.Steps.{Part, Step, when, refused_or, refusal, do_part}
+use Rattle.mq_calls.specs.Steps.{Part, when, do_part}
 use Rattle.mq_spec_manager.specs.Commands.{uses_of, planned_step, command}
 use Rattle.mq_spec_log.specs.Bodies.{record_of}
 use Rattle.mq_law_manager.specs.Facts.{Mem}
+use Rattle.mq_law_manager.proofs.ShortSteps.{tested_all}
 use Rattle.mq_law_log.specs.Keeps.{Told, Keeps}
 use Rattle.mq_law_image.specs.Values.{AreObjectTexts, IsCommandText, MakesText, IsMade, StepMakes}
 use Rattle.mq_law_image.proofs.Valued.{command_text}
@@ -35,12 +36,8 @@ planned_makes c p (Ok (plans.Change planned)) e k h = (command_text c p.given.na
 planned_makes c p (Ok (plans.Show shown)) e k h = tt
 planned_makes c p (Err refused) e k h = tt
 
-pub tested_makes : {F T : Type 0} (o : Option F) (s : Step F T) → StepMakes s → StepMakes (refused_or o s)
-tested_makes None s h = h
-tested_makes (Some reason) s h = tt
-
 pub command_makes : (c : Command) (p : Plain) → IsCommandText c → AreObjectTexts p.definitions → StepMakes (command c p)
-command_makes c p k h = tested_makes (refusal (when (not (is_up p.running)) refusals.Down ∷ [])) (planned_step (plan c p.given.name p.definitions (uses_of p)) p.definitions) (planned_makes c p (plan c p.given.name p.definitions (uses_of p)) refl k h)
+command_makes c p k h = tested_all StepMakes (λ r. tt) (when (not (is_up p.running)) refusals.Down ∷ []) (planned_step (plan c p.given.name p.definitions (uses_of p)) p.definitions) (planned_makes c p (plan c p.given.name p.definitions (uses_of p)) refl k h)
 
 -- a line of a text of commands
 whole_line : (line : Line) (lines : List Line) → AllByRecursion IsWholeCommand lines → Mem line lines → IsWholeCommand line

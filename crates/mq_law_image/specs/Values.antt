@@ -32,9 +32,9 @@ use Rattle.mq_calls.specs.declared.records.LogRecord.{LogRecord}
 use Rattle.mq_calls.specs.declared.records.LogRecord.TheVariants as records
 use Rattle.mq_record.specs.Records.{IsRecord}
 use Rattle.mq_calls.specs.Sizes.{change_text}
-use Rattle.mq_calls.specs.Steps.{Part, Step}
-use Rattle.mq_calls.specs.Steps.Step.{Refuse, Do}
+use Rattle.mq_calls.specs.Steps.{Step}
 use Rattle.mq_law_manager.specs.Facts.{Mem}
+use Rattle.mq_law_manager.specs.Forced.{StepForces}
 use Rattle.mq_law_image.specs.Laid.{IsSubject, is_no_end}
 
 -- ---- what is kept without effect
@@ -237,5 +237,4 @@ IsMade (Some r) = MakesText r
 
 -- of all parts of a call
 abbrev pub StepMakes : {F T : Type 0} → Step F T → Type 0
-StepMakes (Refuse reason) = Unit {0}
-StepMakes (Do reply parts) = AllByRecursion (λ (part : Part). IsMade part.forced) parts
+StepMakes step = StepForces IsMade step

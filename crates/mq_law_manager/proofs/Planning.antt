@@ -4,7 +4,6 @@ use Rattle.std.specs.Prelude.{Option, Some, None, Result, Ok, Err, if◌then◌e
 use Rattle.mq_objects.specs.declared.object.Object.{Object}
 use Rattle.mq_objects.specs.declared.object.Object.TheVariants as objects
 use Rattle.mq_objects.specs.declared.object.Definitions.{Definitions}
-use Rattle.mq_objects.specs.declared.object.ManagerAttributes.{ManagerAttributes}
 use Rattle.mq_objects.specs.declared.setting.Keyword.{Keyword}
 use Rattle.mq_objects.specs.declared.setting.Setting.{Setting}
 use Rattle.mq_objects.specs.declared.command.Subject.{Subject}
@@ -12,6 +11,7 @@ use Rattle.mq_objects.specs.declared.command.Command.{Command}
 use Rattle.mq_objects.specs.declared.command.Command.TheVariants as commands
 use Rattle.mq_objects.specs.declared.command.Define.{Define}
 use Rattle.mq_objects.specs.declared.command.Alter.{Alter}
+use Rattle.mq_objects.specs.declared.command.AlterManager.{AlterManager}
 use Rattle.mq_objects.specs.declared.command.Delete.{Delete}
 use Rattle.mq_objects.specs.declared.change.ObjectChange.{ObjectChange}
 use Rattle.mq_objects.specs.declared.change.ObjectChange.TheVariants as changes
@@ -53,11 +53,11 @@ pub record IsLetGo (s : Subject) (old : Object) (d : Definitions) (u : Uses) : T
   pub sent : is_sent_from old u ≡ false
   pub filled : is_filled old u ≡ false
 
--- What holds of all of these, by whether names lead elsewhere and a queue counts as TRIGGER again,
-pub record EachChange (P : ObjectChange → (reroutes on : Bool) → Type 0) (d : Definitions) (u : Uses) : Type 0 where
+-- What holds of all of these that a command may plan, by whether names lead elsewhere and a queue counts as TRIGGER again,
+pub record EachChange (P : ObjectChange → (reroutes on : Bool) → Type 0) (c : Command) (d : Definitions) (u : Uses) : Type 0 where
   pub fresh : (new : Object) → object_at new d ≡ None → P (changes.Set new) false false
   pub over : (old new : Object) (on : Bool) → IsSetOver old new on d u → P (changes.Set new) (leads_elsewhere old new) on
-  pub manager : (m : ManagerAttributes) (reroutes : Bool) → P (changes.SetManager m) reroutes false
+  pub manager : (a : AlterManager) (reroutes : Bool) → c ≡ commands.AlterManager a → P (changes.SetManager (set_all_manager a.settings d.manager)) reroutes false
   pub gone : (s : Subject) (old : Object) → IsLetGo s old d u → P (changes.Delete s) false false
 
 -- of a plan's change,
@@ -111,41 +111,41 @@ found_as s new o d space name e = ap (λ (x : Space). object_in x (name_of new) 
 row_has : (P : ObjectChange → Bool → Bool → Type 0) (b : Bool) (e : ScRefusal) (rest : Result Planned ScRefusal) → (b ≡ false → PlannedHas P rest) → PlannedHas P (if b then Err e else rest)
 row_has P b e rest k = bool_case b (λ t. b ≡ t → PlannedHas P (if t then Err e else rest)) (λ z w. tt) (λ z w. k w) refl
 
-changed_has : (P : ObjectChange → Bool → Bool → Type 0) (d : Definitions) (u : Uses) (force : Bool) (old new : Object) (on : Bool) → EachChange P d u → object_at new d ≡ Some old → is_local new ≡ is_local old → (on ≡ true → is_local old ≡ true)
+changed_has : (P : ObjectChange → Bool → Bool → Type 0) (w : Command) (d : Definitions) (u : Uses) (force : Bool) (old new : Object) (on : Bool) → EachChange P w d u → object_at new d ≡ Some old → is_local new ≡ is_local old → (on ≡ true → is_local old ≡ true)
     → PlannedHas P (changed force old new on u)
-changed_has P d u force old new on h found kind local = row_has P (is_used force old new u) refusals.InUse _ (λ e. row_has P (changes_rows old new && is_filled old u) refusals.NotEmpty _ (λ w. h.over old new on (record {
+changed_has P w d u force old new on h found kind local = row_has P (is_used force old new u) refusals.InUse _ (λ e. row_has P (changes_rows old new && is_filled old u) refusals.NotEmpty _ (λ n. h.over old new on (record {
   found = found;
   kind = kind;
   local = local;
   sent = none_middle (not force && leads_elsewhere old new && is_on_path old u) (changes_usage old new && is_sent_from old u) (is_busy old u) e;
-  filled = w;
+  filled = n;
 })))
 
-define_has : (P : ObjectChange → Bool → Bool → Type 0) (d : Definitions) (u : Uses) (c : Define) (o : Option Object) → EachChange P d u → named c.subject d ≡ o → PlannedHas P (define_at c (defined_object c.subject c.settings) o u)
-define_has P d u c None h e =
+define_has : (P : ObjectChange → Bool → Bool → Type 0) (w : Command) (d : Definitions) (u : Uses) (c : Define) (o : Option Object) → EachChange P w d u → named c.subject d ≡ o → PlannedHas P (define_at c (defined_object c.subject c.settings) o u)
+define_has P w d u c None h e =
     let a = defined_alike c.subject c.settings in
     h.fresh (defined_object c.subject c.settings) (found_as c.subject (defined_object c.subject c.settings) None d (a.space ∙ new_space c.subject) (a.name ∙ new_name c.subject) e)
-define_has P d u c (Some old) h e =
+define_has P w d u c (Some old) h e =
     let a = defined_alike c.subject c.settings in
     let new : Object = defined_object c.subject c.settings in
     row_has P (not c.replace || not (is_kind c.subject old)) refusals.Exists _ (λ k.
-    changed_has P d u false old new false h (found_as c.subject new (Some old) d (a.space ∙ new_space c.subject) (a.name ∙ new_name c.subject) e)
+    changed_has P w d u false old new false h (found_as c.subject new (Some old) d (a.space ∙ new_space c.subject) (a.name ∙ new_name c.subject) e)
     (a.local ∙ kind_local c.subject old (not_false (is_kind c.subject old) (no_left (not c.replace) (not (is_kind c.subject old)) k))) (λ s. absurd cc))
 
-good_has : (P : ObjectChange → Bool → Bool → Type 0) (d : Definitions) (u : Uses) (c : Alter) (old : Object) (o : Option Keyword) → EachChange P d u → named c.subject d ≡ Some old → PlannedHas P (alter_good o c old u)
-good_has P d u c old (Some keyword) h e = tt
-good_has P d u c old None h e =
+good_has : (P : ObjectChange → Bool → Bool → Type 0) (w : Command) (d : Definitions) (u : Uses) (c : Alter) (old : Object) (o : Option Keyword) → EachChange P w d u → named c.subject d ≡ Some old → PlannedHas P (alter_good o c old u)
+good_has P w d u c old (Some keyword) h e = tt
+good_has P w d u c old None h e =
     let k = all_alike c.settings old in
     let is = object_is (subject_space c.subject) (subject_name c.subject) old (found_object (subject_space c.subject) (subject_name c.subject) d.objects old e) in
-    changed_has P d u c.force old (set_all c.settings old) (switches_on old c.settings) h (found_as c.subject (set_all c.settings old) (Some old) d (k.space ∙ sym is.0) (k.name ∙ sym is.1) e) k.local (switched_local old c.settings)
+    changed_has P w d u c.force old (set_all c.settings old) (switches_on old c.settings) h (found_as c.subject (set_all c.settings old) (Some old) d (k.space ∙ sym is.0) (k.name ∙ sym is.1) e) k.local (switched_local old c.settings)
 
-alter_has : (P : ObjectChange → Bool → Bool → Type 0) (d : Definitions) (u : Uses) (c : Alter) (o : Option Object) → EachChange P d u → named c.subject d ≡ o → PlannedHas P (alter_at c o u)
-alter_has P d u c None h e = tt
-alter_has P d u c (Some old) h e = row_has P (not (is_kind c.subject old)) refusals.Missing (alter_good (bad_in old c.settings) c old u) (λ k. good_has P d u c old (bad_in old c.settings) h e)
+alter_has : (P : ObjectChange → Bool → Bool → Type 0) (w : Command) (d : Definitions) (u : Uses) (c : Alter) (o : Option Object) → EachChange P w d u → named c.subject d ≡ o → PlannedHas P (alter_at c o u)
+alter_has P w d u c None h e = tt
+alter_has P w d u c (Some old) h e = row_has P (not (is_kind c.subject old)) refusals.Missing (alter_good (bad_in old c.settings) c old u) (λ k. good_has P w d u c old (bad_in old c.settings) h e)
 
-delete_has : (P : ObjectChange → Bool → Bool → Type 0) (d : Definitions) (u : Uses) (c : Delete) (o : Option Object) → EachChange P d u → named c.subject d ≡ o → PlannedHas P (delete_at c o u)
-delete_has P d u c None h e = tt
-delete_has P d u c (Some old) h e = row_has P (not (is_kind c.subject old)) refusals.Missing _ (λ k. row_has P (is_on_path old u || is_sent_from old u || is_busy old u) refusals.InUse _
+delete_has : (P : ObjectChange → Bool → Bool → Type 0) (w : Command) (d : Definitions) (u : Uses) (c : Delete) (o : Option Object) → EachChange P w d u → named c.subject d ≡ o → PlannedHas P (delete_at c o u)
+delete_has P w d u c None h e = tt
+delete_has P w d u c (Some old) h e = row_has P (not (is_kind c.subject old)) refusals.Missing _ (λ k. row_has P (is_on_path old u || is_sent_from old u || is_busy old u) refusals.InUse _
     (λ n. row_has P (is_filled old u) refusals.NotEmpty _ (λ f. h.gone c.subject old (record {
       found = e;
       kind = not_false (is_kind c.subject old) k;
@@ -163,10 +163,10 @@ to_shown P (Ok shown) = tt
 to_shown P (Err refusal) = tt
 
 -- WHAT HOLDS OF EACH CHANGE holds of what a command plans
-pub plan_has : (P : ObjectChange → Bool → Bool → Type 0) (c : Command) (own : List ℕ) (d : Definitions) (u : Uses) → EachChange P d u → PlanHas P (plan c own d u)
-plan_has P (commands.Define c) own d u h = to_has P (define c d u) (define_has P d u c (named c.subject d) h refl)
-plan_has P (commands.Alter c) own d u h = to_has P (alter c d u) (alter_has P d u c (named c.subject d) h refl)
+pub plan_has : (P : ObjectChange → Bool → Bool → Type 0) (c : Command) (own : List ℕ) (d : Definitions) (u : Uses) → EachChange P c d u → PlanHas P (plan c own d u)
+plan_has P (commands.Define c) own d u h = to_has P (define c d u) (define_has P (commands.Define c) d u c (named c.subject d) h refl)
+plan_has P (commands.Alter c) own d u h = to_has P (alter c d u) (alter_has P (commands.Alter c) d u c (named c.subject d) h refl)
 plan_has P (commands.AlterManager c) own d u h = to_has P (alter_manager c d u)
-    (row_has P (not c.force && default_changes d.manager (set_all_manager c.settings d.manager) && u.defxmitq_on_path) refusals.InUse _ (λ e. h.manager (set_all_manager c.settings d.manager) (default_changes d.manager (set_all_manager c.settings d.manager))))
-plan_has P (commands.Delete c) own d u h = to_has P (delete c d u) (delete_has P d u c (named c.subject d) h refl)
+    (row_has P (not c.force && default_changes d.manager (set_all_manager c.settings d.manager) && u.defxmitq_on_path) refusals.InUse _ (λ e. h.manager c (default_changes d.manager (set_all_manager c.settings d.manager)) refl))
+plan_has P (commands.Delete c) own d u h = to_has P (delete c d u) (delete_has P (commands.Delete c) d u c (named c.subject d) h refl)
 plan_has P (commands.Display c) own d u h = to_shown P (display c own d u)

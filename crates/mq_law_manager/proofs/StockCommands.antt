@@ -91,16 +91,16 @@ FitsSo p change reroutes on = Fits change reroutes p
 abbrev AllFit : Plain → Result Plan ScRefusal → Type 0
 AllFit p r = PlanHas (FitsSo p) r
 
-each_fits : (p : Plain) → EachChange (FitsSo p) p.definitions (uses_of p)
-each_fits p = record {
+each_fits : (c : Command) (p : Plain) → EachChange (FitsSo p) c p.definitions (uses_of p)
+each_fits c p = record {
   fresh = λ new none old f. absurd (cc (none, f));
   over = λ old new on h x f. subst (λ (o : Object). IsOver o new (leads_elsewhere old new) p) (ap (object_or old) (sym h.found ∙ f)) (record { kind = h.kind; filled = h.filled; leads = refl });
-  manager = λ m reroutes. tt;
+  manager = λ a reroutes e. tt;
   gone = λ s old h. record { old = old; found = h.found; kind = h.kind; filled = h.filled; path = h.path };
 }
 
 plan_fits : (c : Command) (p : Plain) → AllFit p (plan c p.given.name p.definitions (uses_of p))
-plan_fits c p = plan_has (FitsSo p) c p.given.name p.definitions (uses_of p) (each_fits p)
+plan_fits c p = plan_has (FitsSo p) c p.given.name p.definitions (uses_of p) (each_fits c p)
 
 -- An object is set
 

@@ -2,6 +2,7 @@
 use Rattle.std.proofs.Common.{ℕ, ◌≡◌, true, false, List, [], ◌∷◌, refl, ap, sym, subst, ◌∙◌, inl, inr}
 use Rattle.std.specs.Prelude.{if◌then◌else◌, Option, Some, None, ◌==◌, is_some}
 use Rattle.std.specs.Str.{bytes_eq}
+use Rattle.std.proofs.lemmas.Bool.{true≢false}
 use Rattle.mq_calls.specs.declared.agents.PrepareFault.{PrepareFault}
 use Rattle.mq_calls.specs.declared.state.Seizure.{Seizure}
 use Rattle.mq_codes.specs.declared.reason.Reason.{Reason}
@@ -121,9 +122,6 @@ pub triggers_silent : (n : Node) → EachIsSilent (trigger_deed n)
 triggers_silent n = up_silent n.manager.running (trigger_deed_of (first_due (locals_of n.manager.definitions) n.manager) n) (of_silent (first_due (locals_of n.manager.definitions) n.manager) n)
 
 -- QUEUES THAT SENDERS HAVE OPEN
-clash : true ≡ false → ⊥
-clash z = absurd cc
-
 some_seizure : (a b : Seizure) → Some a ≡ Some b → a ≡ b
 some_seizure a b z = cc
 
@@ -156,7 +154,7 @@ queues_apart a b p g h all apart =
     bool_case (bytes_eq (queue_of_sender a p) (queue_of_sender b p)) (λ x. x ≡ false)
     (λ z.
     let one : s.0.queue ≡ t.0.queue = sym (ap seized_queue s.1) ∙ name_is (queue_of_sender a p) (queue_of_sender b p) z ∙ ap seized_queue t.1 in
-    absurd (clash (sym (name_self b) ∙ ap (λ (x : List ℕ). bytes_eq x b) (sym (m.1 ∙ all.alone s.0 t.0 m.0 o.0 one ∙ sym o.1)) ∙ apart)))
+    absurd (true≢false (sym (name_self b) ∙ ap (λ (x : List ℕ). bytes_eq x b) (sym (m.1 ∙ all.alone s.0 t.0 m.0 o.0 one ∙ sym o.1)) ∙ apart)))
     (λ z. refl)
 
 -- two senders of a node
@@ -172,16 +170,16 @@ channels_apart n j k e f keyed here there apart = bool_case (bytes_eq e.channel 
 idle_none : (channel q : List ℕ) (stamp : ℕ) (f : SenderEnd) (x : SenderDoes) (n : Node) → Runs f.machine x → is_running f.machine.state ≡ false → EachAddsNone channel q (sender_deed_by stamp f x n)
 idle_none channel q stamp f does_.Still n runs off = tt
 idle_none channel q stamp f does_.Ignore n runs off = refl
-idle_none channel q stamp f (does_.HardenSession session) n runs off = absurd (clash (sym runs ∙ off))
-idle_none channel q stamp f does_.PushBind n runs off = absurd (clash (sym runs ∙ off))
-idle_none channel q stamp f does_.Expire n runs off = absurd (clash (sym runs ∙ off))
-idle_none channel q stamp f (does_.Begin k count) n runs off = absurd (clash (sym runs ∙ off))
-idle_none channel q stamp f (does_.PushMsg index) n runs off = absurd (clash (sym runs ∙ off))
-idle_none channel q stamp f does_.Prepare n runs off = absurd (clash (sym runs ∙ off))
-idle_none channel q stamp f does_.PushEnd n runs off = absurd (clash (sym runs ∙ off))
-idle_none channel q stamp f (does_.Bound settle partner) n runs off = absurd (clash (sym runs ∙ off))
-idle_none channel q stamp f does_.Commit n runs off = absurd (clash (sym runs ∙ off))
-idle_none channel q stamp f (does_.Backout reason) n runs off = absurd (clash (sym runs ∙ off))
+idle_none channel q stamp f (does_.HardenSession session) n runs off = absurd (true≢false (sym runs ∙ off))
+idle_none channel q stamp f does_.PushBind n runs off = absurd (true≢false (sym runs ∙ off))
+idle_none channel q stamp f does_.Expire n runs off = absurd (true≢false (sym runs ∙ off))
+idle_none channel q stamp f (does_.Begin k count) n runs off = absurd (true≢false (sym runs ∙ off))
+idle_none channel q stamp f (does_.PushMsg index) n runs off = absurd (true≢false (sym runs ∙ off))
+idle_none channel q stamp f does_.Prepare n runs off = absurd (true≢false (sym runs ∙ off))
+idle_none channel q stamp f does_.PushEnd n runs off = absurd (true≢false (sym runs ∙ off))
+idle_none channel q stamp f (does_.Bound settle partner) n runs off = absurd (true≢false (sym runs ∙ off))
+idle_none channel q stamp f does_.Commit n runs off = absurd (true≢false (sym runs ∙ off))
+idle_none channel q stamp f (does_.Backout reason) n runs off = absurd (true≢false (sym runs ∙ off))
 
 pub other_sender_none : (n : Node) (j k stamp : ℕ) (e f : SenderEnd) (seen : Seen) → IsKeyed n → AreSeized n.manager → end_in j n.own.ends ≡ Some (Sends e) → end_in k n.own.ends ≡ Some (Sends f) → (j ≡ k → ⊥)
     → HasSeized e.channel n.manager → (is_running f.machine.state ≡ true → HasSeized f.channel n.manager) → EachAddsNone e.channel (queue_of_sender e.channel n.manager) (sender_deed stamp f seen n)

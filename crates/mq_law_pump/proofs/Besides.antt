@@ -1,6 +1,7 @@
 -- An entry of a PUMP that is of another cable, or a trigger turn, leaves what a lane sees.
 use Rattle.std.proofs.Common.{ℕ, ◌≡◌, Bool, true, false, List, [], ◌∷◌, ◌++◌, refl, ap, sym, subst, ◌∙◌, append-nil, inl, inr}
 use Rattle.std.specs.Prelude.{if◌then◌else◌, Option, Some, None, ◌==◌, ◌&&◌, slice_get}
+use Rattle.std.proofs.lemmas.Bool.{true≢false}
 use Rattle.mq_cable.specs.declared.fault.Fault.{Fault}
 use Rattle.mq_frame.specs.declared.frame.Frame.{Frame}
 use Rattle.mq_frame.specs.declared.frame.Seen.{Seen}
@@ -55,9 +56,6 @@ use Rattle.mq_law_pump.proofs.Openings.{lane_stays}
 use Rattle.mq_law_pump.proofs.Seeing.{far_on, near_on}
 use Rattle.mq_law_pump.proofs.Ways.{by_more, kept_if, laid_last, taken_first}
 
-clash : true ≡ false → ⊥
-clash z = absurd cc
-
 apart_eq : (a b : ℕ) → (b ≡ a → ⊥) → (a == b) ≡ false
 apart_eq a b h = bool_case (a == b) (λ t. t ≡ false) (λ z. absurd (h (sym (eqb_yes a b z)))) (λ z. refl)
 
@@ -75,7 +73,7 @@ pops_quiet : (b : Bool) (pushes pops : List Entry) (x : Entry) → IsWithin push
     → (seen_of (lying [] pushes (pops ++ kept_if b x)) ≡ seen_of (lying [] pushes pops)) × IsWithin pushes (pops ++ kept_if b x)
 pops_quiet true pushes pops x within h = (
   taken_first pushes pops x ∙ ap (λ (t : Bool). behind_if t (seen_of (lying [] pushes pops))) (h refl),
-  pops_within pushes pops x within (λ p. absurd (clash (sym p ∙ h refl))),
+  pops_within pushes pops x within (λ p. absurd (true≢false (sym p ∙ h refl))),
 )
 pops_quiet false pushes pops x within h = (ap (λ (es : List Entry). seen_of (lying [] pushes es)) (append-nil pops), subst (IsWithin pushes) (sym (append-nil pops)) within)
 
@@ -214,12 +212,12 @@ entry_beside w0 w m x b deed o j d l g first h quiet is ran stays defines adds =
 quiet_sends : (k j : ℕ) (x : Entry) → (j ≡ k → ⊥) → x.actor ≡ actors.Sender k → IsQuietFor j x
 quiet_sends k j x apart actor = record {
   sends = λ z. absurd (apart (sym (eqb_yes k j (sym (ap (is_sender j) actor) ∙ z))));
-  takes = λ z. absurd (clash (sym z ∙ ap (is_receiver j) actor));
+  takes = λ z. absurd (true≢false (sym z ∙ ap (is_receiver j) actor));
 }
 
 quiet_takes : (k j : ℕ) (x : Entry) → (j ≡ k → ⊥) → x.actor ≡ actors.Receiver k → IsQuietFor j x
 quiet_takes k j x apart actor = record {
-  sends = λ z. absurd (clash (sym z ∙ ap (is_sender j) actor));
+  sends = λ z. absurd (true≢false (sym z ∙ ap (is_sender j) actor));
   takes = λ z. absurd (apart (sym (eqb_yes k j (sym (ap (is_receiver j) actor) ∙ z))));
 }
 

@@ -2,6 +2,7 @@
 use Rattle.std.proofs.Common.{◌≡◌, ◌≤◌, ◌<◌, ◌⊎◌, ℕ, zero, suc, Bool, true, false, List, [], ◌∷◌, ◌++◌, length, refl, sym, ap, subst, ◌∙◌, append-nil, arith, inl, inr}
 use Rattle.std.specs.Prelude.{Option, None, Some, drop, is_some, ◌==◌}
 use Rattle.std.specs.Option.{option_map}
+use Rattle.std.proofs.lemmas.Bool.{true≢false}
 use Rattle.mq_cable.specs.declared.fault.Fault.{Fault}
 use Rattle.mq_frame.specs.declared.frame.Frame.{Frame}
 use Rattle.mq_frame.specs.declared.frame.Seen.{Seen}
@@ -88,10 +89,7 @@ two_managers w k c near far e r l h = bool_case (c.receiver == c.sender) (λ b. 
     (λ is z. refl) refl
 
 turned_eq : (a b : ℕ) → (a == b) ≡ false → (b == a) ≡ false
-turned_eq a b e = bool_case (b == a) (λ t. (b == a) ≡ t → t ≡ false) (λ z f. absurd (clash (sym (ap (λ (n : ℕ). a == n) (eqb_yes b a f) ∙ nat_self a) ∙ e))) (λ z f. refl) refl
-  where
-    clash : true ≡ false → ⊥
-    clash z = absurd cc
+turned_eq a b e = bool_case (b == a) (λ t. (b == a) ≡ t → t ≡ false) (λ z f. absurd (true≢false (sym (ap (λ (n : ℕ). a == n) (eqb_yes b a f) ∙ nat_self a) ∙ e))) (λ z f. refl) refl
 
 -- WHAT AN END TAKES
 abbrev TakesSeen : Seen → SenderDoes → Type 0
@@ -341,12 +339,9 @@ times_out_at w k c near far e r l x g h actor call popped =
         out_within = (subst (λ (ps : List Entry). IsWithin ps (by (is_receiver k) (v.done c.receiver))) (sym mine) (subst (IsWithin (by (is_sender k) (w.done m) ++ x ∷ [])) (sym theirs)
             (pushes_within (by (is_sender k) (w.done m)) (by (is_receiver k) (w.done c.receiver)) x h.out_within)));
         back_within = (subst (λ (ps : List Entry). IsWithin ps (by (is_sender k) (v.done m))) (sym theirs) (subst (IsWithin (by (is_receiver k) (w.done c.receiver))) (sym mine)
-            (pops_within (by (is_receiver k) (w.done c.receiver)) (by (is_sender k) (w.done m)) x h.back_within (λ p. absurd (clash (sym p ∙ none))))));
+            (pops_within (by (is_receiver k) (w.done c.receiver)) (by (is_sender k) (w.done m)) x h.back_within (λ p. absurd (true≢false (sym p ∙ none))))));
       };
     }
-  where
-    clash : true ≡ false → ⊥
-    clash z = absurd cc
 
 pub times_out_moves : (w : Network) (k : ℕ) (c : CableLine) (near far : Node) (e : SenderEnd) (r : ReceiverEnd) (l : Lane) (m : ℕ) (x : Entry) → Good (does m (x ∷ []) w) → Shows w k c near far e r l → TakesTurn (turn_in w Slot.TimesOut k c) m x → SenderTimesOut w k c near far e r l m x
 times_out_moves w k c near far e r l m x g h t = subst (λ (i : ℕ). Good (does i (x ∷ []) w) → SenderTimesOut w k c near far e r l i x) (sym t.is.0) (λ g1. times_out_at w k c near far e r l x g1 h t.is.1 t.is.2 t.popped) g
@@ -402,7 +397,7 @@ takes_it r n x xs seen sees popped changed = bool_case (is_some r.machine.owes) 
     (λ z owes.
     let none : is_popped x ≡ false = pops_as x items.Nothing (popped ∙ ap (λ (y : ReceiverDoes). popped_by seen (pushed_of (receiver_deed_by 0 r seen y n))) (owed_first r.machine seen (is_receiver_defined r.channel n.manager.definitions) owes) ∙ owes_pushes 0 r.machine.owes seen owes) in (
       ap (λ (y : ReceiverDoes). taken_by y xs) (owed_first r.machine (waiting xs) (is_receiver_defined r.channel n.manager.definitions) owes) ∙ ap (λ (b : Bool). behind_if b xs) (sym none),
-      λ p. absurd (clash (sym p ∙ none)),
+      λ p. absurd (true≢false (sym p ∙ none)),
     ))
     (λ z free.
     let all : x.effect.popped ≡ waiting xs = popped ∙ unowed (receivers_pop 0 r seen n) free ∙ sees in (
@@ -411,12 +406,9 @@ takes_it r n x xs seen sees popped changed = bool_case (is_some r.machine.owes) 
       λ p. sym (pops_as x (waiting xs) all) ∙ p,
     )) refl
   where
-    clash : true ≡ false → ⊥
-    clash z = absurd cc
-
     unowed : {A : Type 0} → A ⊎ (is_some r.machine.owes ≡ true) → is_some r.machine.owes ≡ false → A
     unowed (inl a) free = a
-    unowed (inr owes) free = absurd (clash (sym owes ∙ free))
+    unowed (inr owes) free = absurd (true≢false (sym owes ∙ free))
 
 receives_at : (w : Network) (k : ℕ) (c : CableLine) (near far : Node) (e : SenderEnd) (r : ReceiverEnd) (l : Lane) (x : Entry) → Good (does c.receiver (x ∷ []) w) → Shows w k c near far e r l → x.actor ≡ actors.Receiver k → x.call ≡ calls.Turn
     → x.effect.popped ≡ popped_by (turn_in w Slot.Receives k c).seen (pushed_of (turn_in w Slot.Receives k c).deed) → ReceiverMoves w k c near far e r l c.receiver x

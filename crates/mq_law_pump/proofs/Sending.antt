@@ -2,6 +2,7 @@
 use Rattle.std.proofs.Common.{ℕ, zero, suc, ◌≡◌, ◌≤◌, ◌<◌, ◌+◌, ◌-◌, Bool, true, false, List, [], ◌∷◌, ◌++◌, length, refl, ap, sym, subst, arith, ◌∙◌, append-nil}
 use Rattle.std.specs.Prelude.{if◌then◌else◌, Option, Some, None, ◌&&◌, is_some, min, nat_lt, pos, slice_get, take}
 use Rattle.std.specs.Option.{option_map}
+use Rattle.std.proofs.lemmas.Bool.{true≢false}
 use Rattle.mq_calls.specs.declared.agents.Note.TheVariants as notes
 use Rattle.mq_calls.specs.declared.agents.PrepareFault.{PrepareFault}
 use Rattle.mq_calls.specs.declared.agents.PrepareFault.TheVariants as prepare_faults
@@ -251,9 +252,6 @@ sends_message e n w stamp index g f is s = with_row (batch_row e.channel index n
     sent_so_far : ℕ
     sent_so_far = messages_sent e.machine.state
 
-    clash : true ≡ false → ⊥
-    clash z = absurd cc
-
     one_on : (i : ℕ) → i + 1 ≡ suc i
     one_on i = omega arith
 
@@ -261,7 +259,7 @@ sends_message e n w stamp index g f is s = with_row (batch_row e.channel index n
     there = ap (λ (i : ℕ). is_some (batch_row e.channel i n.manager)) (s.1 ∙ one_on sent_so_far) ∙ f.there s.0 sent_so_far (lt_yes sent_so_far e.machine.count s.2)
 
     with_row : (o : Option Message) → batch_row e.channel index n.manager ≡ o → TurnsLane e n (sent e (does.PushMsg index) [] (option_map (carried stamp e e.machine.begun index) (batch_row e.channel index n.manager)) n) w
-    with_row None none = absurd (clash (sym there ∙ ap is_some none))
+    with_row None none = absurd (true≢false (sym there ∙ ap is_some none))
     with_row (Some m) row = same_lane e n w (does.PushMsg index) stamp (names_of m.route) (record m { route = None }) [] (option_map (carried stamp e e.machine.begun index) (batch_row e.channel index n.manager)) g is (λ x. absurd cc) (refl, refl)
         (ap (option_map (carried stamp e e.machine.begun index)) row) refl (sending_runs e.machine.state s.0)
 

@@ -1,6 +1,7 @@
 -- Where neither end of a cable has anything to do, its lane is quiet.
 use Rattle.std.proofs.Common.{ℕ, zero, suc, ◌≡◌, ◌⊎◌, Bool, true, false, List, [], ◌∷◌, ◌++◌, length, refl, ap, sym, subst, ◌∙◌, inl, inr}
 use Rattle.std.specs.Prelude.{Option, Some, None, drop, is_some, not}
+use Rattle.std.proofs.lemmas.Bool.{true≢false}
 use Rattle.mq_calls.specs.declared.agents.PrepareFault.{PrepareFault}
 use Rattle.mq_cable.specs.Faults.{Offer, offered_of}
 use Rattle.mq_codes.specs.declared.reason.Reason.{Reason}
@@ -50,10 +51,7 @@ changes_none pushes xs None h = inl refl
 changes_none pushes xs (Some d) h = one d.pushed refl
   where
     one : (p : Option Frame) → d.pushed ≡ p → IsStillEnd (Some d) (seen_of xs)
-    one None is = absurd (clash (ap (λ (p : Option Frame). changes (record { faults = []; pushes = pushes; items = xs }) (Some (record d { pushed = p }))) (sym is) ∙ h))
-      where
-        clash : true ≡ false → ⊥
-        clash z = absurd cc
+    one None is = absurd (true≢false (ap (λ (p : Option Frame). changes (record { faults = []; pushes = pushes; items = xs }) (Some (record d { pushed = p }))) (sym is) ∙ h))
     one (Some f) is = inr (ap is_some is, sym (full_as xs) ∙ not_false (is_full_way xs) (ap (λ (p : Option Frame). changes (record { faults = []; pushes = pushes; items = xs }) (Some (record d { pushed = p }))) (sym is) ∙ h))
 
 items_if : (o : Option Frame) (extras : ℕ) (xs : List Lying) → Items (seen_of xs) → Items (seen_of (offered_of (offered_if o extras) ++ xs))

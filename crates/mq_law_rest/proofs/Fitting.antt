@@ -2,6 +2,7 @@
 use Rattle.std.proofs.Common.{ℕ, zero, suc, ◌≡◌, ◌≤◌, ◌<◌, ◌⊎◌, true, false, List, [], ◌∷◌, ◌++◌, length, refl, ap, sym, subst, ◌∙◌, inl, inr, append_assoc, append-nil, arith}
 use Rattle.std.specs.Prelude.{◌==◌, if◌then◌else◌, Option, Some, None, is_some, slice_get}
 use Rattle.std.specs.Option.{option_map}
+use Rattle.std.proofs.lemmas.Bool.{true≢false}
 use Rattle.mq_base.specs.Members.{Mem}
 use Rattle.mq_message.specs.declared.message.Ident.{Ident}
 use Rattle.mq_queue.specs.declared.row.Row.{Row}
@@ -48,9 +49,6 @@ use Rattle.mq_law_run.proofs.Cabling.{cable_there}
 use Rattle.mq_law_story.proofs.Weaving.{follows_at}
 use Rattle.mq_law_rest.specs.Rests.{AreSome, IsPeaceful}
 use Rattle.mq_law_rest.proofs.Standing.{StandAt, stand_at}
-
-true_false : true ≡ false → ⊥
-true_false e = cc
 
 -- WHAT THE NETWORK'S FACTS SAY OF ONE NODE
 down_up : (p : Plain) (r : Running) → r ≡ Up → IsState r p → IsSound p
@@ -123,7 +121,7 @@ found_in [] x h n = absurd n
 found_in (y ∷ es) x h n = bool_case (cable_of y == cable_of x) (λ t. (cable_of y == cable_of x) ≡ t → (if t then Some y else end_in (cable_of x) es) ≡ Some x)
     (λ z e. ap (λ (o : ChannelEnd). Some o) (one_cable (y ∷ es) y x h (inl refl) n (nat_yes (cable_of y) (cable_of x) e)))
     (λ z e. found_in es x h.1 (elim n [
-      | inl q ↦ absurd (true_false (sym (nat_self (cable_of x)) ∙ ap (λ (o : ChannelEnd). cable_of o == cable_of x) q ∙ e))
+      | inl q ↦ absurd (true≢false (sym (nat_self (cable_of x)) ∙ ap (λ (o : ChannelEnd). cable_of o == cable_of x) q ∙ e))
       | inr w ↦ w
     ])) refl
 

@@ -4,6 +4,7 @@ use Rattle.std.specs.Prelude.{◌==◌, ◌-◌, cond, count_by, drop, if◌then
 use Rattle.std.proofs.lemmas.List.{length-append}
 use Rattle.std.proofs.lemmas.List.Sums.{sum_by-append, sum_by-cons}
 use Rattle.std.proofs.Math.Seq.{drop-append_seam, take-append_seam}
+use Rattle.std.proofs.lemmas.Bool.{true≢false}
 use Rattle.mq_history.specs.declared.calls.Actor.{Actor}
 use Rattle.mq_history.specs.declared.calls.Actor.TheVariants as actors
 use Rattle.mq_history.specs.declared.calls.Call.{Call}
@@ -146,9 +147,6 @@ due l w m e r call = at (w.first m) refl
         due_deed (trigger_deed (after n (w.done m))) e.chance (after n (w.done m)) (subst (λ (c : Call). IsEvent e.stamp e.actor c e.chance e.effect.popped (after n (w.done m))) call t.1.event)
 
 -- A PUMP
-true_false : true ≡ false → ⊥
-true_false e = cc
-
 -- so many are taken, and of those that were given these are left
 abbrev Takes : ℕ → ℕ → Network → List Task → Type 0
 Takes n taken w [] = Served w × (taken ≤ n) × (is_idle w ≡ false → taken ≡ n)
@@ -229,7 +227,7 @@ skipped n taken w left slot cable any (Some c) next h p = takes_is n taken w nex
 
 one_pass : (n taken : ℕ) (w : Network) (t : Task) (next ts : List Task) → Served w → Takes n taken w (t ∷ ts) → Passes w t next → Takes n taken w (next ++ ts)
 one_pass n taken w (Pump zero slot cable any) next [] served h p = takes_is n taken w next [] p (served, omega (arith, h), λ z. omega (arith, h))
-one_pass n taken w (Pump (suc left) slot cable any) next [] served h (inl p) = takes_is n taken w next [] p.1 (served, omega (arith, h), λ z. absurd (true_false (sym p.0 ∙ z)))
+one_pass n taken w (Pump (suc left) slot cable any) next [] served h (inl p) = takes_is n taken w next [] p.1 (served, omega (arith, h), λ z. absurd (true≢false (sym p.0 ∙ z)))
 one_pass n taken w (Pump (suc left) slot cable any) next [] served h (inr p) = skipped n taken w (suc left) slot cable any (slice_get w.scenario.cables cable) next h p
 one_pass n taken w (Pump left slot cable any) next (u ∷ ts) served h p = absurd h
 one_pass n taken w (Ask at actor call) next ts served h p = absurd h
@@ -259,7 +257,7 @@ takes w0 n l (moves w t ts m e go mv) r =
     (on_more (is_turn e) before h.0 ∙ sym (taken_more l (goes_grew w0 (Pump n Sends 0 false ∷ []) go).more m e (there l w m e r))) h.1
 takes w0 n l (serves w ts m e go call) r =
     let before : ℕ = taken_in l (goes_grew w0 (Pump n Sends 0 false ∷ []) go).more in
-    let h = one_trigger n before w (does m (e ∷ []) w) ts (λ served. true_false (sym (served m) ∙ due l w m e r call)) (takes w0 n l go (earlier l w m e r)) in
+    let h = one_trigger n before w (does m (e ∷ []) w) ts (λ served. true≢false (sym (served m) ∙ due l w m e r call)) (takes w0 n l go (earlier l w m e r)) in
     takes_as n before (taken_in l (λ j. if j == m then (goes_grew w0 (Pump n Sends 0 false ∷ []) go).more j ++ e ∷ [] else (goes_grew w0 (Pump n Sends 0 false ∷ []) go).more j)) (does m (e ∷ []) w) ts
     (off_more (is_turn e) before (trigger_none e call) ∙ sym (taken_more l (goes_grew w0 (Pump n Sends 0 false ∷ []) go).more m e (there l w m e r))) h
 takes w0 n l (passes w t next ts go served p) r = one_pass n (taken_in l (goes_grew w0 (Pump n Sends 0 false ∷ []) go).more) w t next ts served (takes w0 n l go r) p

@@ -63,16 +63,16 @@ ChangeSo p change reroutes on = FitsSo change p
 abbrev AllSo : Plain → Result Plan ScRefusal → Type 0
 AllSo p r = PlanHas (ChangeSo p) r
 
-each_so : (p : Plain) → EachChange (ChangeSo p) p.definitions (uses_of p)
-each_so p = record {
+each_so : (c : Command) (p : Plain) → EachChange (ChangeSo p) c p.definitions (uses_of p)
+each_so c p = record {
   fresh = λ new none old f. absurd (cc (none, f));
   over = λ old new on h x f. subst (λ (o : Object). (is_local new ≡ is_local o) × ((changes_usage o new && is_sent_from o (uses_of p)) ≡ false)) (ap (object_or old) (sym h.found ∙ f)) (h.kind, h.sent);
-  manager = λ m reroutes. tt;
+  manager = λ a reroutes e. tt;
   gone = λ s old h. record { old = old; found = h.found; sent = h.sent };
 }
 
 plan_so : (c : Command) (p : Plain) → AllSo p (plan c p.given.name p.definitions (uses_of p))
-plan_so c p = plan_has (ChangeSo p) c p.given.name p.definitions (uses_of p) (each_so p)
+plan_so c p = plan_has (ChangeSo p) c p.given.name p.definitions (uses_of p) (each_so c p)
 
 -- A QUEUE THAT IS OPEN stays a transmission queue
 not_and : (a b : Bool) → (not a && b) ≡ false → b ≡ true → a ≡ true

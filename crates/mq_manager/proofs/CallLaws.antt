@@ -50,7 +50,8 @@ use Rattle.mq_manager.specs.Kept.{IsKept}
 use Rattle.mq_manager.proofs.WellLaws.{Idles, true_false, conn_down, going_down, for_down, turn_down, well_conn, well_open, well_close, well_put, well_put1, well_get, well_cmit, well_back, well_disc, well_turn}
 use Rattle.mq_manager.proofs.CommandLaws.{command_down, well_command}
 use Rattle.mq_manager.proofs.AgentLaws.{well_seize, well_leave, well_bound, well_expire, well_hold, well_release, well_prepare, well_harden, well_discard, well_move, well_receive}
-use Rattle.mq_manager.proofs.ReadableLaws.{conn_can, open_can, close_can, put_can, put1_can, get_can, cmit_can, back_can, disc_can, trigger_can, seize_can, leave_can, bound_can, expire_can, hold_can, release_can, prepare_can, harden_can, receive_can, move_can, discard_can, command_can}
+use Rattle.mq_manager.proofs.ReadableLaws.{readable, harden_can, command_can}
+use Rattle.mq_law_manager.proofs.Forcing.{conn_forces, open_forces, close_forces, put_forces, put1_forces, get_forces, cmit_forces, back_forces, disc_forces, trigger_forces, seize_forces, leave_forces, bound_forces, expire_forces, hold_forces, release_forces, prepare_forces, receive_forces, move_forces, discard_forces}
 use Rattle.mq_manager.proofs.KeepLaws.{at_up, foreign_keeps, log_after}
 use Rattle.mq_manager.proofs.NamedLaws.{ending_named, image_names}
 
@@ -70,34 +71,34 @@ module _ (tells : Type 0) (read : LogRead) (v new : CoreValue) (k : IsKept tells
   kept_by wants step result m w down harmless can well = record { well = well; log = log_after tells read wants v new step result m w k.well k.log down harmless can }
 
   pub kept_conn : (qmgr : List ℕ) (appl : Appl) (result : Result (Answer Hconn) (Halt Reason)) → Meets (manager_of v) (mqconn qmgr appl v.plain) result (manager_of new) → WritesLog v (mqconn qmgr appl v.plain) result new → IsKept tells read new
-  kept_conn qmgr appl result m w = kept_by Behind (mqconn qmgr appl v.plain) result m w (conn_down qmgr appl v.plain) (λ s. conn_harmless qmgr appl v.plain) (conn_can qmgr appl v.plain) (well_conn (manager_of v) (manager_of new) k.well qmgr appl result m)
+  kept_conn qmgr appl result m w = kept_by Behind (mqconn qmgr appl v.plain) result m w (conn_down qmgr appl v.plain) (λ s. conn_harmless qmgr appl v.plain) (conn_forces readable qmgr appl v.plain) (well_conn (manager_of v) (manager_of new) k.well qmgr appl result m)
 
   pub kept_open : (hc : Hconn) (name qmgr : List ℕ) (how : Open) (result : Result (Answer Hobj) (Halt Reason)) → Meets (manager_of v) (mqopen hc name qmgr how v.plain) result (manager_of new) → WritesLog v (mqopen hc name qmgr how v.plain) result new → IsKept tells read new
-  kept_open hc name qmgr how result m w = kept_by Behind (mqopen hc name qmgr how v.plain) result m w (going_down hc v.plain _) (λ s. open_harmless hc name qmgr how v.plain) (open_can hc name qmgr how v.plain) (well_open (manager_of v) (manager_of new) k.well hc name qmgr how result m)
+  kept_open hc name qmgr how result m w = kept_by Behind (mqopen hc name qmgr how v.plain) result m w (going_down hc v.plain _) (λ s. open_harmless hc name qmgr how v.plain) (open_forces readable hc name qmgr how v.plain) (well_open (manager_of v) (manager_of new) k.well hc name qmgr how result m)
 
   pub kept_close : (hc : Hconn) (ho : Hobj) (result : Result (Answer (Unit {0})) (Halt Reason)) → MeetsInRoom (manager_of v) (mqclose hc ho v.plain) result (manager_of new) → WritesLog v (mqclose hc ho v.plain) result new → IsKept tells read new
-  kept_close hc ho result m w = kept_by Nowhere (mqclose hc ho v.plain) result m w (for_down hc v.plain _) (λ s. close_harmless hc ho v.plain) (close_can hc ho v.plain) (well_close (manager_of v) (manager_of new) k.well hc ho result m)
+  kept_close hc ho result m w = kept_by Nowhere (mqclose hc ho v.plain) result m w (for_down hc v.plain _) (λ s. close_harmless hc ho v.plain) (close_forces readable hc ho v.plain) (well_close (manager_of v) (manager_of new) k.well hc ho result m)
 
   pub kept_put : (hc : Hconn) (ho : Hobj) (md : Md) (body : List ℕ) (sync : Bool) (result : Result (Answer Sent) (Halt Reason)) → Meets (manager_of v) (mqput hc ho md body sync v.plain) result (manager_of new) → WritesLog v (mqput hc ho md body sync v.plain) result new → IsKept tells read new
-  kept_put hc ho md body sync result m w = kept_by Behind (mqput hc ho md body sync v.plain) result m w (for_down hc v.plain _) (λ s. put_harmless_whole hc ho md body sync v.plain s) (put_can hc ho md body sync v.plain) (well_put (manager_of v) (manager_of new) k.well hc ho md body sync result m)
+  kept_put hc ho md body sync result m w = kept_by Behind (mqput hc ho md body sync v.plain) result m w (for_down hc v.plain _) (λ s. put_harmless_whole hc ho md body sync v.plain s) (put_forces readable hc ho md body sync v.plain) (well_put (manager_of v) (manager_of new) k.well hc ho md body sync result m)
 
   pub kept_put1 : (hc : Hconn) (name qmgr : List ℕ) (md : Md) (body : List ℕ) (sync : Bool) (result : Result (Answer Sent) (Halt Reason)) → Meets (manager_of v) (mqput1 hc name qmgr md body sync v.plain) result (manager_of new) → WritesLog v (mqput1 hc name qmgr md body sync v.plain) result new → IsKept tells read new
-  kept_put1 hc name qmgr md body sync result m w = kept_by Behind (mqput1 hc name qmgr md body sync v.plain) result m w (for_down hc v.plain _) (λ s. put1_harmless hc name qmgr md body sync v.plain s) (put1_can hc name qmgr md body sync v.plain) (well_put1 (manager_of v) (manager_of new) k.well hc name qmgr md body sync result m)
+  kept_put1 hc name qmgr md body sync result m w = kept_by Behind (mqput1 hc name qmgr md body sync v.plain) result m w (for_down hc v.plain _) (λ s. put1_harmless hc name qmgr md body sync v.plain s) (put1_forces readable hc name qmgr md body sync v.plain) (well_put1 (manager_of v) (manager_of new) k.well hc name qmgr md body sync result m)
 
   pub kept_get : (hc : Hconn) (ho : Hobj) (get : Get) (until : Option ℕ) (result : Result GetAnswer (Halt Reason)) → Meets (manager_of v) (mqget hc ho get until v.plain) result (manager_of new) → WritesLog v (mqget hc ho get until v.plain) result new → IsKept tells read new
-  kept_get hc ho get until result m w = kept_by Behind (mqget hc ho get until v.plain) result m w (for_down hc v.plain _) (λ s. get_harmless hc ho get until v.plain s) (get_can hc ho get until v.plain) (well_get (manager_of v) (manager_of new) k.well hc ho get until result m)
+  kept_get hc ho get until result m w = kept_by Behind (mqget hc ho get until v.plain) result m w (for_down hc v.plain _) (λ s. get_harmless hc ho get until v.plain s) (get_forces readable hc ho get until v.plain) (well_get (manager_of v) (manager_of new) k.well hc ho get until result m)
 
   pub kept_cmit : (hc : Hconn) (result : Result (Answer (Unit {0})) (Halt Reason)) → MeetsInRoom (manager_of v) (mqcmit hc v.plain) result (manager_of new) → WritesLog v (mqcmit hc v.plain) result new → IsKept tells read new
-  kept_cmit hc result m w = kept_by Nowhere (mqcmit hc v.plain) result m w (for_down hc v.plain _) (λ s. cmit_harmless hc v.plain s) (cmit_can hc v.plain) (well_cmit (manager_of v) (manager_of new) k.well hc result m)
+  kept_cmit hc result m w = kept_by Nowhere (mqcmit hc v.plain) result m w (for_down hc v.plain _) (λ s. cmit_harmless hc v.plain s) (cmit_forces readable hc v.plain) (well_cmit (manager_of v) (manager_of new) k.well hc result m)
 
   pub kept_back : (hc : Hconn) (result : Result (Answer (Unit {0})) (Halt Reason)) → MeetsInRoom (manager_of v) (mqback hc v.plain) result (manager_of new) → WritesLog v (mqback hc v.plain) result new → IsKept tells read new
-  kept_back hc result m w = kept_by Nowhere (mqback hc v.plain) result m w (for_down hc v.plain _) (λ s. back_harmless hc v.plain s) (back_can hc v.plain) (well_back (manager_of v) (manager_of new) k.well hc result m)
+  kept_back hc result m w = kept_by Nowhere (mqback hc v.plain) result m w (for_down hc v.plain _) (λ s. back_harmless hc v.plain s) (back_forces readable hc v.plain) (well_back (manager_of v) (manager_of new) k.well hc result m)
 
   pub kept_disc : (hc : Hconn) (result : Result (Answer (Unit {0})) (Halt Reason)) → MeetsInRoom (manager_of v) (mqdisc hc v.plain) result (manager_of new) → WritesLog v (mqdisc hc v.plain) result new → IsKept tells read new
-  kept_disc hc result m w = kept_by Nowhere (mqdisc hc v.plain) result m w (for_down hc v.plain _) (λ s. disc_harmless hc v.plain s) (disc_can hc v.plain) (well_disc (manager_of v) (manager_of new) k.well hc result m)
+  kept_disc hc result m w = kept_by Nowhere (mqdisc hc v.plain) result m w (for_down hc v.plain _) (λ s. disc_harmless hc v.plain s) (disc_forces readable hc v.plain) (well_disc (manager_of v) (manager_of new) k.well hc result m)
 
   pub kept_turn : (result : Result Bool (Halt Never)) → Meets (manager_of v) (trigger_turn v.plain) result (manager_of new) → WritesLog v (trigger_turn v.plain) result new → IsKept tells read new
-  kept_turn result m w = kept_by Behind (trigger_turn v.plain) result m w (turn_down v.plain) (λ s. trigger_harmless v.plain s) (trigger_can v.plain) (well_turn (manager_of v) (manager_of new) k.well result m)
+  kept_turn result m w = kept_by Behind (trigger_turn v.plain) result m w (turn_down v.plain) (λ s. trigger_harmless v.plain s) (trigger_forces readable v.plain) (well_turn (manager_of v) (manager_of new) k.well result m)
 
   pub kept_command : (c : Command) (result : Result Shown (Halt ScRefusal)) → IsCommandText c → (fits c ≡ false → new ≡ begun_call v) → MeetsOrWants (manager_of v) (command c v.plain) result (manager_of new) → WritesLog v (command c v.plain) result new → IsKept tells read new
   kept_command c result text unfit m w = kept_by Anywhere (command c v.plain) result m w (command_down c v.plain) (λ s. command_harmless c v.plain s) (command_can c v.plain text k.log.texts) (well_command v new k.well c result unfit m)
@@ -153,34 +154,34 @@ module _ (tells : Type 0) (read : LogRead) (v new : CoreValue) (k : IsKept tells
   kept_at wants step result m w harmless can well = kept_by tells read v new k wants step result m w (λ d. absurd (true_false _ d up)) harmless can well
 
   pub kept_seize : (channel : List ℕ) (result : Result (Unit {0}) (Halt SeizeFault)) → MeetsOrWants (manager_of v) (seize channel v.plain) result (manager_of new) → WritesLog v (seize channel v.plain) result new → IsKept tells read new
-  kept_seize channel result m w = kept_at Anywhere (seize channel v.plain) result m w (λ s. seize_harmless channel v.plain) (seize_can channel v.plain) (well_seize (manager_of v) (manager_of new) k.well up channel result m)
+  kept_seize channel result m w = kept_at Anywhere (seize channel v.plain) result m w (λ s. seize_harmless channel v.plain) (seize_forces readable channel v.plain) (well_seize (manager_of v) (manager_of new) k.well up channel result m)
 
   pub kept_leave : (channel : List ℕ) (result : Result (Unit {0}) (Halt Never)) → MeetsInRoom (manager_of v) (leave channel v.plain) result (manager_of new) → WritesLog v (leave channel v.plain) result new → IsKept tells read new
-  kept_leave channel result m w = kept_at Nowhere (leave channel v.plain) result m w (λ s. leave_harmless channel v.plain) (leave_can channel v.plain) (well_leave (manager_of v) (manager_of new) k.well up channel result m)
+  kept_leave channel result m w = kept_at Nowhere (leave channel v.plain) result m w (λ s. leave_harmless channel v.plain) (leave_forces readable channel v.plain) (well_leave (manager_of v) (manager_of new) k.well up channel result m)
 
   pub kept_bound : (channel : List ℕ) (b : Bool) (result : Result (Unit {0}) (Halt Never)) → MeetsOrWants (manager_of v) (set_bound channel b v.plain) result (manager_of new) → WritesLog v (set_bound channel b v.plain) result new → IsKept tells read new
-  kept_bound channel b result m w = kept_at Anywhere (set_bound channel b v.plain) result m w (λ s. bound_harmless channel b v.plain) (bound_can channel b v.plain) (well_bound (manager_of v) (manager_of new) k.well up channel b result m)
+  kept_bound channel b result m w = kept_at Anywhere (set_bound channel b v.plain) result m w (λ s. bound_harmless channel b v.plain) (bound_forces readable channel b v.plain) (well_bound (manager_of v) (manager_of new) k.well up channel b result m)
 
   pub kept_expire : (channel : List ℕ) (result : Result (Unit {0}) (Halt Never)) → MeetsOrWants (manager_of v) (expire channel v.plain) result (manager_of new) → WritesLog v (expire channel v.plain) result new → IsKept tells read new
-  kept_expire channel result m w = kept_at Anywhere (expire channel v.plain) result m w (λ s. expire_harmless channel v.plain s) (expire_can channel v.plain) (well_expire (manager_of v) (manager_of new) k.well up channel result m)
+  kept_expire channel result m w = kept_at Anywhere (expire channel v.plain) result m w (λ s. expire_harmless channel v.plain s) (expire_forces readable channel v.plain) (well_expire (manager_of v) (manager_of new) k.well up channel result m)
 
   pub kept_hold : (channel : List ℕ) (unit : Luw) (most : ℕ) (result : Result ℕ (Halt Never)) → CanHold channel v.plain → MeetsOrWants (manager_of v) (hold_batch channel unit most v.plain) result (manager_of new) → WritesLog v (hold_batch channel unit most v.plain) result new → IsKept tells read new
-  kept_hold channel unit most result can m w = kept_at Anywhere (hold_batch channel unit most v.plain) result m w (λ s. hold_harmless channel unit most v.plain can) (hold_can channel unit most v.plain) (well_hold (manager_of v) (manager_of new) k.well up channel unit most result can m)
+  kept_hold channel unit most result can m w = kept_at Anywhere (hold_batch channel unit most v.plain) result m w (λ s. hold_harmless channel unit most v.plain can) (hold_forces readable channel unit most v.plain) (well_hold (manager_of v) (manager_of new) k.well up channel unit most result can m)
 
   pub kept_release : (channel : List ℕ) (result : Result (Unit {0}) (Halt Never)) → MeetsInRoom (manager_of v) (release_batch channel v.plain) result (manager_of new) → WritesLog v (release_batch channel v.plain) result new → IsKept tells read new
-  kept_release channel result m w = kept_at Nowhere (release_batch channel v.plain) result m w (λ s. release_harmless channel v.plain) (release_can channel v.plain) (well_release (manager_of v) (manager_of new) k.well up channel result m)
+  kept_release channel result m w = kept_at Nowhere (release_batch channel v.plain) result m w (λ s. release_harmless channel v.plain) (release_forces readable channel v.plain) (well_release (manager_of v) (manager_of new) k.well up channel result m)
 
   pub kept_prepare : (channel : List ℕ) (last : ℕ) (result : Result (Unit {0}) (Halt PrepareFault)) → CanPrepare channel v.plain → 0 < length channel → MeetsOrWants (manager_of v) (prepare channel last v.plain) result (manager_of new) → WritesLog v (prepare channel last v.plain) result new → IsKept tells read new
-  kept_prepare channel last result can named m w = kept_at Anywhere (prepare channel last v.plain) result m w (λ s. prepare_harmless_whole channel last v.plain can s) (prepare_can channel last v.plain named) (well_prepare (manager_of v) (manager_of new) k.well up channel last result m)
+  kept_prepare channel last result can named m w = kept_at Anywhere (prepare channel last v.plain) result m w (λ s. prepare_harmless_whole channel last v.plain can s) (prepare_forces readable channel last v.plain (λ b. named)) (well_prepare (manager_of v) (manager_of new) k.well up channel last result m)
 
   pub kept_discard : (queue : List ℕ) (ident : Ident) (result : Result (Unit {0}) (Halt Never)) → HasFreeRow queue ident v.plain → MeetsOrWants (manager_of v) (discard queue ident v.plain) result (manager_of new) → WritesLog v (discard queue ident v.plain) result new → IsKept tells read new
-  kept_discard queue ident result can m w = kept_at Anywhere (discard queue ident v.plain) result m w (λ s. discard_harmless queue ident v.plain can s) (discard_can queue ident v.plain) (well_discard (manager_of v) (manager_of new) k.well up queue ident result can m)
+  kept_discard queue ident result can m w = kept_at Anywhere (discard queue ident v.plain) result m w (λ s. discard_harmless queue ident v.plain can s) (discard_forces readable queue ident v.plain) (well_discard (manager_of v) (manager_of new) k.well up queue ident result can m)
 
   pub kept_move : (from : List ℕ) (ident : Ident) (to : Dest) (bare : Bool) (result : Result (Unit {0}) (Halt Reason)) → CanMove from ident bare v.plain → MeetsOrWants (manager_of v) (move_row from ident to bare v.plain) result (manager_of new) → WritesLog v (move_row from ident to bare v.plain) result new → IsKept tells read new
-  kept_move from ident to bare result can m w = kept_at Anywhere (move_row from ident to bare v.plain) result m w (λ s. move_harmless from ident to bare v.plain can s) (move_can from ident to bare v.plain) (well_move (manager_of v) (manager_of new) k.well up from ident to bare result can m)
+  kept_move from ident to bare result can m w = kept_at Anywhere (move_row from ident to bare v.plain) result m w (λ s. move_harmless from ident to bare v.plain can s) (move_forces readable from ident to bare v.plain) (well_move (manager_of v) (manager_of new) k.well up from ident to bare result can m)
 
   pub kept_receive : (channel : List ℕ) (unit : Luw) (last : ℕ) (batch : List Message) (result : Result (Unit {0}) (Halt Reason)) → CanReceive channel unit v.plain → 0 < length channel → MeetsOrWants (manager_of v) (receive channel unit last batch v.plain) result (manager_of new) → WritesLog v (receive channel unit last batch v.plain) result new → IsKept tells read new
-  kept_receive channel unit last batch result can named m w = kept_at Anywhere (receive channel unit last batch v.plain) result m w (λ s. receive_harmless channel unit last batch v.plain can s) (receive_can channel unit last batch v.plain named) (well_receive (manager_of v) (manager_of new) k.well up channel unit last batch result m)
+  kept_receive channel unit last batch result can named m w = kept_at Anywhere (receive channel unit last batch v.plain) result m w (λ s. receive_harmless channel unit last batch v.plain can s) (receive_forces readable channel unit last batch v.plain (λ l. named)) (well_receive (manager_of v) (manager_of new) k.well up channel unit last batch result m)
 
   -- where no restart would read the record, nothing is written
   begun_kept : new ≡ begun_call v → IsKept tells read new

@@ -1,13 +1,12 @@
 -- A command that fits leaves MAXMSGL of the manager within what a record keeps.
 use Rattle.std.proofs.Common.{◌≡◌, ◌≤◌, ℕ, Bool, true, false, List, [], ◌∷◌, refl, ap, sym, subst}
-use Rattle.std.specs.Prelude.{Option, Some, None, Result, Ok, Err, not, ◌&&◌, ◌||◌, ◌++◌, if◌then◌else◌}
+use Rattle.std.specs.Prelude.{Option, Some, None, Result, Ok, Err, not, ◌&&◌, ◌++◌}
 use Rattle.std.specs.List.{list_all}
 use Rattle.std.proofs.lemmas.Bool.{leb-true}
 use Rattle.mq_objects.specs.declared.object.Object.{Object}
 use Rattle.mq_objects.specs.declared.object.Object.TheVariants as objects
 use Rattle.mq_objects.specs.declared.object.ManagerAttributes.{ManagerAttributes}
 use Rattle.mq_objects.specs.declared.object.Definitions.{Definitions}
-use Rattle.mq_objects.specs.declared.setting.Keyword.{Keyword}
 use Rattle.mq_objects.specs.declared.setting.Setting.{Setting}
 use Rattle.mq_objects.specs.declared.setting.Setting.TheVariants as settings
 use Rattle.mq_objects.specs.declared.change.ObjectChange.{ObjectChange}
@@ -15,13 +14,9 @@ use Rattle.mq_objects.specs.declared.change.ObjectChange.TheVariants as changes
 use Rattle.mq_objects.specs.declared.command.Subject.{Subject}
 use Rattle.mq_objects.specs.declared.command.Subject.TheVariants as subjects
 use Rattle.mq_objects.specs.declared.command.Command.{Command}
-use Rattle.mq_objects.specs.declared.command.Command.TheVariants as commands
-use Rattle.mq_objects.specs.declared.command.Define.{Define}
-use Rattle.mq_objects.specs.declared.command.Alter.{Alter}
-use Rattle.mq_objects.specs.declared.command.Delete.{Delete}
-use Rattle.mq_objects.specs.Names.{named, name_of, local_of, is_kind}
+use Rattle.mq_objects.specs.Names.{name_of, local_of}
 use Rattle.mq_objects.specs.Changed.{changed as changed_by}
-use Rattle.mq_objects.specs.Settings.{set_manager, set_all, set_all_manager}
+use Rattle.mq_objects.specs.Settings.{set_manager, set_all_manager}
 use Rattle.mq_resolve.specs.declared.route.PathStep.{PathStep}
 use Rattle.mq_resolve.specs.declared.route.PathStep.TheVariants as steps
 use Rattle.mq_calls.specs.declared.commands.ScRefusal.{ScRefusal}
@@ -33,9 +28,7 @@ use Rattle.mq_sc_apply.specs.Uses.{Uses}
 use Rattle.mq_sc_apply.specs.declared.answers.Planned.{Planned}
 use Rattle.mq_sc_apply.specs.declared.answers.Plan.{Plan}
 use Rattle.mq_sc_apply.specs.declared.answers.Plan.TheVariants as plans
-use Rattle.mq_sc_apply.specs.Commands.{plan, to_change, to_show}
-use Rattle.mq_sc_apply.specs.Displayed.{display}
-use Rattle.mq_sc_apply.specs.Planned.{define, define_at, defined_object, changed, is_used, changes_rows, is_filled, alter, alter_at, alter_good, bad_in, switches_on, alter_manager, default_changes, delete, delete_at, is_on_path, is_sent_from, is_busy}
+use Rattle.mq_sc_apply.specs.Commands.{plan}
 use Rattle.mq_calls.specs.Words.{Plain, MeetsOrWants, LocalQueue, is_up, apply, logged, when, tested}
 use Rattle.mq_calls.specs.declared.commands.Halt.{Halt}
 use Rattle.mq_calls.specs.Meeting.Wants.{Anywhere}
@@ -44,6 +37,7 @@ use Rattle.mq_spec_manager.specs.Commands.{command, planned_step, uses_of, follo
 use Rattle.mq_law_manager.specs.Kept.{StepKeeps}
 use Rattle.mq_law_manager.proofs.Lists.{bool_case}
 use Rattle.mq_law_manager.proofs.Ending.{joined}
+use Rattle.mq_law_manager.proofs.Planning.{EachChange, PlanHas, plan_has}
 use Rattle.mq_law_manager.proofs.Commanding.{command_keeps}
 use Rattle.mq_law_manager.proofs.StockCommands.{command_stocked}
 use Rattle.mq_law_manager.proofs.Stocks.{tested_on}
@@ -70,61 +64,23 @@ ChangeFits (changes.Set new) = Unit {0}
 ChangeFits (changes.SetManager m) = m.max_message_length ≤ 4194304
 ChangeFits (changes.Delete s) = Unit {0}
 
-PlannedFits : Result Planned ScRefusal → Type 0
-PlannedFits (Ok planned) = ChangeFits planned.change
-PlannedFits (Err refusal) = Unit {0}
+abbrev FitsSo : ObjectChange → Bool → Bool → Type 0
+FitsSo change reroutes on = ChangeFits change
 
-PlanFits : Result Plan ScRefusal → Type 0
-PlanFits (Ok (plans.Change planned)) = ChangeFits planned.change
-PlanFits (Ok (plans.Show shown)) = Unit {0}
-PlanFits (Err refusal) = Unit {0}
+abbrev PlanFits : Result Plan ScRefusal → Type 0
+PlanFits r = PlanHas FitsSo r
 
-row_fits : (b : Bool) (e : ScRefusal) (rest : Result Planned ScRefusal) → PlannedFits rest → PlannedFits (if b then Err e else rest)
-unfolding PlannedFits
-row_fits true e rest h = tt
-row_fits false e rest h = h
-
-changed_fits : (force : Bool) (old new : Object) (on : Bool) (u : Uses) → PlannedFits (changed force old new on u)
-unfolding PlannedFits ChangeFits
-changed_fits force old new on u = row_fits (is_used force old new u) refusals.InUse _ (row_fits (changes_rows old new && is_filled old u) refusals.NotEmpty _ tt)
-
-define_fits : (d : Define) (new : Object) (o : Option Object) (u : Uses) → PlannedFits (define_at d new o u)
-unfolding PlannedFits ChangeFits
-define_fits d new None u = tt
-define_fits d new (Some old) u = row_fits (not d.replace || not (is_kind d.subject old)) refusals.Exists (changed false old new false u) (changed_fits false old new false u)
-
-good_fits : (a : Alter) (old : Object) (o : Option Keyword) (u : Uses) → PlannedFits (alter_good o a old u)
-unfolding PlannedFits
-good_fits a old (Some keyword) u = tt
-good_fits a old None u = changed_fits a.force old (set_all a.settings old) (switches_on old a.settings) u
-
-alter_fits : (a : Alter) (o : Option Object) (u : Uses) → PlannedFits (alter_at a o u)
-unfolding PlannedFits
-alter_fits a None u = tt
-alter_fits a (Some old) u = row_fits (not (is_kind a.subject old)) refusals.Missing (alter_good (bad_in old a.settings) a old u) (good_fits a old (bad_in old a.settings) u)
-
-delete_fits : (d : Delete) (o : Option Object) (u : Uses) → PlannedFits (delete_at d o u)
-unfolding PlannedFits ChangeFits
-delete_fits d None u = tt
-delete_fits d (Some old) u = row_fits (not (is_kind d.subject old)) refusals.Missing _ (row_fits (is_on_path old u || is_sent_from old u || is_busy old u) refusals.InUse _ (row_fits (is_filled old u) refusals.NotEmpty _ tt))
-
-change_fits : (r : Result Planned ScRefusal) → PlannedFits r → PlanFits (to_change r)
-unfolding PlannedFits PlanFits
-change_fits (Ok planned) h = h
-change_fits (Err refusal) h = tt
-
-show_fits : (r : Result Shown ScRefusal) → PlanFits (to_show r)
-unfolding PlanFits
-show_fits (Ok shown) = tt
-show_fits (Err refusal) = tt
+each_fits : (c : Command) (d : Definitions) (u : Uses) → fits c ≡ true → d.manager.max_message_length ≤ 4194304 → EachChange FitsSo c d u
+unfolding ChangeFits
+each_fits c d u f h = record {
+  fresh = λ new none. tt;
+  over = λ old new on is. tt;
+  manager = λ a reroutes e. fits_all a.settings d.manager (subst (λ (x : Command). fits x ≡ true) e f) h;
+  gone = λ s old is. tt;
+}
 
 plan_fits : (c : Command) (own : List ℕ) (d : Definitions) (u : Uses) → fits c ≡ true → d.manager.max_message_length ≤ 4194304 → PlanFits (plan c own d u)
-unfolding PlannedFits ChangeFits
-plan_fits (commands.Define c) own d u f h = change_fits (define c d u) (define_fits c (defined_object c.subject c.settings) (named c.subject d) u)
-plan_fits (commands.Alter a) own d u f h = change_fits (alter a d u) (alter_fits a (named a.subject d) u)
-plan_fits (commands.AlterManager a) own d u f h = change_fits (alter_manager a d u) (row_fits (not a.force && default_changes d.manager (set_all_manager a.settings d.manager) && u.defxmitq_on_path) refusals.InUse _ (fits_all a.settings d.manager f h))
-plan_fits (commands.Delete c) own d u f h = change_fits (delete c d u) (delete_fits c (named c.subject d) u)
-plan_fits (commands.Display c) own d u f h = show_fits (display c own d u)
+plan_fits c own d u f h = plan_has FitsSo c own d u (each_fits c d u f h)
 
 -- what follows a change of objects is none
 stale_steady : (b : Bool) (step : PathStep) → AllSteady (stale_if b step)
@@ -171,7 +127,6 @@ changed_limit (changes.SetManager m) d f h = f
 changed_limit (changes.Delete s) d f h = h
 
 planned_limit : (r : Result Plan ScRefusal) (p : Plain) → PlanFits r → HasLimit p → StepKeeps HasLimit (planned_step r p.definitions) p
-unfolding PlanFits
 planned_limit (Ok (plans.Change planned)) p f h =
     let q : Plain = apply (ChangeObjects planned.change) (logged (Some (records.Objects planned.change)) p) in (
       subst (λ (d : Definitions). d.manager.max_message_length ≤ 4194304) (sym (steady_all (follows planned.change planned p.definitions) q (follows_steady planned.change planned p.definitions)))

@@ -1,13 +1,13 @@
 -- What must hold of a record beside its fields so that a later start reads it from its bytes: its channel, if it is of one, has a
 -- name; the text of what it changes of objects is read; its session is below 2^61.
 use Rattle.std.specs.Prelude.{ℕ, ◌<◌, ◌^◌, nat_lt, Bool, true, false, ◌&&◌, ◌||◌, List, length, Option, Some, None}
-use Rattle.std.specs.List.{AllByRecursion}
 use Rattle.mq_calls.specs.declared.records.LogRecord.{LogRecord}
 use Rattle.mq_calls.specs.declared.records.LogRecord.TheVariants as records
 use Rattle.mq_calls.specs.declared.agents.Note.{Note}
 use Rattle.mq_calls.specs.declared.agents.Note.TheVariants as notes
-use Rattle.mq_calls.specs.Words.{Part, Step, Refuse, Do}
+use Rattle.mq_calls.specs.Words.{Part, Step}
 use Rattle.mq_law_image.specs.Values.{IsChangeText}
+use Rattle.mq_law_manager.specs.Forced.{AllForce, StepForces}
 
 abbrev pub CanBeRead : LogRecord → Type 0
 CanBeRead (records.Started manager name incarnation) = ⊥
@@ -28,11 +28,10 @@ CanBeReadIn (Some r) = CanBeRead r
 
 -- of all parts of a call
 abbrev pub AllCanBeRead : List Part → Type 0
-AllCanBeRead parts = AllByRecursion (λ (part : Part). CanBeReadIn part.forced) parts
+AllCanBeRead parts = AllForce CanBeReadIn parts
 
 abbrev pub StepCanBeRead : {F T : Type 0} → Step F T → Type 0
-StepCanBeRead (Refuse reason) = Unit {0}
-StepCanBeRead (Do reply parts) = AllCanBeRead parts
+StepCanBeRead step = StepForces CanBeReadIn step
 
 -- the session of a note, if it begins one, is low
 abbrev pub IsLowNote : Note → Type 0

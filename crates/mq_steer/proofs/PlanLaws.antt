@@ -74,19 +74,19 @@ CanSo p change reroutes on = CanChange change reroutes on p
 abbrev AllCan : Plain → Result Plan ScRefusal → Type 0
 AllCan p r = PlanHas (CanSo p) r
 
-each_can : (p : Plain) → EachChange (CanSo p) p.definitions (uses_of p)
-each_can p = record {
+each_can : (c : Command) (p : Plain) → EachChange (CanSo p) c p.definitions (uses_of p)
+each_can c p = record {
   fresh = λ new none. record { over = λ x f. absurd (cc (none, f)); marked = unmarked p new };
   over = λ old new on h. record {
     over = λ x f. subst (λ (o : Object). IsOver o new p) (ap (object_or old) (sym h.found ∙ f)) (record { kind = h.kind; filled = h.filled });
     marked = marked p old new on h.kind h.found h.local;
   };
-  manager = λ m reroutes. tt;
+  manager = λ a reroutes e. tt;
   gone = λ s old h. record { old = old; found = h.found; kind = h.kind; filled = h.filled };
 }
 
 plan_can : (c : Command) (p : Plain) → AllCan p (plan c p.given.name p.definitions (uses_of p))
-plan_can c p = plan_has (CanSo p) c p.given.name p.definitions (uses_of p) (each_can p)
+plan_can c p = plan_has (CanSo p) c p.given.name p.definitions (uses_of p) (each_can c p)
 
 -- ---- a command at a manager that is up
 

@@ -1,6 +1,6 @@
 -- What the front of a log tells: its other bodies go on behind it.
 use Rattle.std.proofs.Common.{◌≡◌, ℕ, ◌+◌, ◌≤◌, Bool, true, false, drop, List, [], ◌∷◌, ◌++◌, length, Option, Some, None, Result, Ok, Err, refl, sym, ap, ◌∙◌, subst, arith, append_assoc, length-append}
-use Rattle.std.specs.Prelude.{◌==◌, ◌&&◌, nat_eq}
+use Rattle.std.specs.Prelude.{◌==◌, ◌&&◌, nat_eq, MatchResult}
 use Rattle.std.specs.List.{starts_with}
 use Rattle.std.specs.Str.{bytes_eq}
 use Rattle.std.proofs.lemmas.Bool.{eqb-true}
@@ -12,14 +12,15 @@ use Rattle.mq_calls.specs.State.{Given}
 use Rattle.mq_calls.specs.declared.image.Image.{Image}
 use Rattle.mq_spec_log.specs.Applies.{Start}
 use Rattle.mq_spec_log.specs.Applies.Start.{Later}
-use Rattle.mq_spec_log.specs.Bodies.{record_of, behind, or_place, image_from, empty_image}
+use Rattle.mq_spec_log.specs.Bodies.{record_of, behind, or_place, image_from, empty_image, begins, image}
 use Rattle.mq_recover.specs.declared.recovering.Recovering.{Recovering}
 use Rattle.mq_recover.specs.declared.recovery.RecoverFault.{RecoverFault}
 use Rattle.mq_recover.specs.Recovering.{seen}
 use Rattle.mq_recover.specs.declared.recovery.RecoverFault.TheVariants.{NoMemory}
-use Rattle.mq_recover.specs.Found.{given_as, Told}
+use Rattle.mq_recover.specs.Found.{given_as, Told, Recovers}
+use Rattle.mq_recover.proofs.WalkLaws.{image_begun, fault_given, image_given}
 use Rattle.mq_told.specs.declared.front.Front.{Front}
-use Rattle.mq_told.specs.Fronts.{AreBodies, HasTold, IsFront, TellsAll}
+use Rattle.mq_told.specs.Fronts.{AreBodies, HasTold, IsFront, TellsAll, Fails, Misses, IsWhole}
 
 -- these bytes are bodies, with which all go on from another image
 pub record Left (g : Given) (start : Start) (all : List (List ℕ)) (place : ℕ) (i : Image) (framed : List ℕ) (further : ℕ) (j : Image) : Type 0 where
@@ -126,3 +127,19 @@ front_low framed front at is here = omega (arith, ap length here, ap length is, 
 
 pub front_whole : (framed front at rest : List ℕ) → framed ≡ front ++ drop (length front) framed → at ≡ front → rest ≡ drop (length at) framed → front ++ rest ≡ framed
 front_whole framed front at rest is here r = ap (λ (x : List ℕ). front ++ x) (r ∙ ap (λ (y : List ℕ). drop (length y) framed) here) ∙ sym is
+
+-- where bodies begin with a start, what no reader of them has is no image
+pub begun_fails : (number : ℕ) (name : List ℕ) (all : List (List ℕ)) → begins all ≡ true → (fault : RecoverFault) → Fails (given_as number name) all fault → Misses number name all fault
+begun_fails number name all begun fault h = λ g n m. subst (λ (r : Result Image ℕ). Told r (Err fault)) (image_begun g Later number name all n m begun) h
+
+-- and what a reader of them has is their image
+pub whole_image : (number : ℕ) (name : List ℕ) (all : List (List ℕ)) (front : Front) (i : Image) → IsWhole (given_as number name) all front → i ≡ seen front.recovering → (g : Given) → g.number ≡ number → g.name ≡ name → Recovers (image g Later all) (Ok i)
+whole_image number name all front i whole is g n m =
+    image_given (image g Later all) front.recovering i (told_again (image g Later all) front.recovering (sym (image_begun g Later number name all n m whole.begun) ∙ whole.told.0)) is
+
+pub misses : (number : ℕ) (name : List ℕ) (all : List (List ℕ)) (fault : RecoverFault) → Misses number name all fault → (g : Given) → g.number ≡ number → g.name ≡ name → Recovers (image g Later all) (Err fault)
+misses number name all fault h g n m = fault_given (image g Later all) fault (h g n m)
+
+pub whole_told : (number : ℕ) (name : List ℕ) (all : List (List ℕ)) (r : Result Front RecoverFault) → begins all ≡ true → MatchResult r (TellsAll (given_as number name) all) (Fails (given_as number name) all) → MatchResult r (IsWhole (given_as number name) all) (Misses number name all)
+whole_told number name all (Ok front) begun h = record { begun = begun; told = h }
+whole_told number name all (Err fault) begun h = begun_fails number name all begun fault h

@@ -1,10 +1,10 @@
 -- The first bodies of a log, with what they told.
-use Rattle.std.specs.Prelude.{◌≡◌, ◌++◌, ℕ, List, length, drop, Result, Ok, Err}
+use Rattle.std.specs.Prelude.{◌≡◌, ◌++◌, ℕ, List, length, drop, true, Result, Ok, Err}
 use Rattle.mq_log.specs.Bodies.{frames, AllFit}
 use Rattle.mq_calls.specs.State.{Given}
 use Rattle.mq_calls.specs.declared.image.Image.{Image}
 use Rattle.mq_spec_log.specs.Applies.Start.{Later}
-use Rattle.mq_spec_log.specs.Bodies.{image_from, empty_image}
+use Rattle.mq_spec_log.specs.Bodies.{image_from, empty_image, begins, image}
 use Rattle.mq_recover.specs.declared.recovery.RecoverFault.{RecoverFault}
 use Rattle.mq_recover.specs.Recovering.{seen}
 use Rattle.mq_recover.specs.Found.{Told}
@@ -39,3 +39,17 @@ TellsAll g all front = (image_from g Later 0 all empty_image ≡ Ok (seen front.
 abbrev pub Goes : {A : Type 0} → Given → List (List ℕ) → Front → Result A RecoverFault → Type 0
 Goes g all front (Ok done) = TellsAll g all front
 Goes g all front (Err fault) = Fails g all fault
+
+-- these bodies tell no image, whatever else was given to the manager
+abbrev pub Misses : ℕ → List ℕ → List (List ℕ) → RecoverFault → Type 0
+Misses number name all fault = (g : Given) → g.number ≡ number → g.name ≡ name → Told (image g Later all) (Err fault)
+
+-- these bodies begin with a start, or tell no image
+abbrev pub Opens : {A : Type 0} → Given → List (List ℕ) → Result A RecoverFault → Type 0
+Opens g all (Ok done) = begins all ≡ true
+Opens g all (Err fault) = Told (image g Later all) (Err fault)
+
+-- and what a reader of them has in the end, from a start on
+pub record IsWhole (g : Given) (all : List (List ℕ)) (front : Front) : Type 0 where
+  pub begun : begins all ≡ true
+  pub told : TellsAll g all front

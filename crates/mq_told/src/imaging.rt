@@ -1,12 +1,15 @@
 //! The image that the log of a manager tells.
-ghost use Rattle.std.specs.Prelude.{◌≡◌, ℕ, List, IfOk};
+ghost use Rattle.std.specs.Prelude.{◌≡◌, ℕ, List, Ok, Err, MatchResult};
 ghost use Rattle.mq_log.specs.Bodies.{frames, AllFit};
 ghost use Rattle.mq_calls.specs.State.{Given};
 ghost use Rattle.mq_spec_log.specs.Applies.Start.{Later};
 ghost use Rattle.mq_spec_log.specs.Bodies.{image};
-ghost use Rattle.mq_recover.specs.Found.{Recovers};
-ghost use Rattle.mq_told.specs.Fronts.{AreBodies};
+ghost use Rattle.mq_recover.specs.declared.recovery.RecoverFault.TheVariants.{NoMemory};
+ghost use Rattle.mq_recover.specs.Found.{Recovers, given_as};
+ghost use Rattle.mq_recover.specs.Recovering.{seen};
+ghost use Rattle.mq_told.specs.Fronts.{AreBodies, Opens, IsWhole, Misses};
 
+use crate::front::Front;
 use crate::told::{LogTold, keep, tell};
 use mq_base::QName;
 use mq_calls::Image;
@@ -14,6 +17,76 @@ use mq_disk::Disk;
 use mq_log::{Bodies, Log};
 use mq_recover::{RecoverFault, begins};
 use std::alloc::Global;
+
+// A log's bodies begin with a start.
+fn opens(alloc: Global, bodies: &Bodies<'_>) -> Result<(), RecoverFault>
+    ensures { (given : Given) → (all : List (List ℕ)) → AllFit all → bodies.now.framed.now ≡ frames all → Opens given all result }
+{
+    match begins(alloc, bodies) {
+        Ok(true) => Ok(()),
+        Ok(false) => Err(RecoverFault::BadRecord(0)),
+        Err(_) => Err(RecoverFault::NoMemory),
+    }
+}
+
+// What they tell, from a start on.
+fn told_front(
+    alloc: Global,
+    manager: u8,
+    name: &QName,
+    before: Option<LogTold>,
+    bodies: &Bodies<'_>,
+) -> Result<Front, RecoverFault>
+    ensures { (all : List (List ℕ)) → AllFit all → bodies.now.framed.now ≡ frames all → MatchResult result (IsWhole (given_as manager name.now) all) (Misses manager name.now all) }
+{
+    match opens(alloc, bodies) {
+        Ok(()) => tell(alloc, manager, name, before, bodies.framed),
+        Err(fault) => Err(fault),
+    }
+}
+
+// A copy of the image that was told.
+fn image_in(alloc: Global, front: &Front) -> Result<Image, RecoverFault>
+    ensures { MatchResult result (λ image. image ≡ seen front.now.recovering) (λ fault. fault ≡ NoMemory) }
+{
+    match front.recovering.to_image(alloc) {
+        Ok(image) => Ok(image),
+        Err(_) => Err(RecoverFault::NoMemory),
+    }
+}
+
+// The image that a log tells, with what is kept for the next restart.
+#[derive(Drop)]
+struct Telling {
+    image: Image,
+    kept: LogTold,
+}
+
+fn read_on(
+    alloc: Global,
+    manager: u8,
+    name: &QName,
+    before: Option<LogTold>,
+    bodies: &Bodies<'_>,
+) -> Result<Telling, RecoverFault>
+    requires { AreBodies bodies.now.framed.now }
+    ensures { (given : Given) → given.number ≡ manager → given.name ≡ name.now → (all : List (List ℕ)) → AllFit all → bodies.now.framed.now ≡ frames all → MatchResult result (λ t. Recovers (image given Later all) (Ok t.image)) (λ fault. Recovers (image given Later all) (Err fault)) }
+{
+    let front = match told_front(alloc, manager, name, before, bodies) {
+        Ok(front) => front,
+        Err(fault) => return Err(fault),
+    };
+    let image = match image_in(alloc, &front) {
+        Ok(image) => image,
+        Err(fault) => return Err(fault),
+    };
+    let kept = keep(manager, name, front);
+    Ok(Telling { image, kept })
+}
+
+fn put(told: &mut Option<LogTold>, kept: LogTold) {
+    *told = Some(kept);
+}
 
 fn image_of(
     alloc: Global,
@@ -26,15 +99,11 @@ fn image_of(
     ensures { (given : Given) → given.number ≡ manager → given.name ≡ name.now → (all : List (List ℕ)) → AllFit all → bodies.now.framed.now ≡ frames all → Recovers (image given Later all) result }
 {
     let before = told.take();
-    if !begins(alloc, bodies)? {
-        return Err(RecoverFault::BadRecord(0));
-    }
-    let front = match tell(alloc, manager, name, before, bodies.framed) {
-        Ok(front) => front,
+    let Telling { image, kept } = match read_on(alloc, manager, name, before, bodies) {
+        Ok(telling) => telling,
         Err(fault) => return Err(fault),
     };
-    let image = front.recovering.to_image(alloc)?;
-    *told = Some(keep(manager, name, front));
+    put(told, kept);
     Ok(image)
 }
 

@@ -47,16 +47,16 @@ fn is_same(manager: u8, name: &QName, other: u8, named: &QName) -> bool
 }
 
 // What was kept, where it is of this manager and a log begins with its bytes.
-fn taken(manager: u8, name: &QName, before: LogTold, framed: &[u8]) -> Option<Front>
+fn taken(manager: u8, name: &QName, old: LogTold, framed: &[u8]) -> Option<Front>
     ensures { IfSome result (IsFront (given_as manager name.now) framed.now) }
 {
-    if !is_same(before.manager, &before.name, manager, name) {
+    if !is_same(old.manager, &old.name, manager, name) {
         return None;
     }
-    if !begin_with(framed, before.front.framed.as_slice()) {
+    if !begin_with(framed, old.front.framed.as_slice()) {
         return None;
     }
-    Some(before.front)
+    Some(old.front)
 }
 
 // What its first bodies told before, where a log begins with their bytes, else none of them.

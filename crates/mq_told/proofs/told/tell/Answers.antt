@@ -2,8 +2,8 @@ use Rattle.std.proofs.Common.{◌∙◌}
 use Rattle.mq_told.proofs.ToldLaws.{front_low, front_whole}
 use Rattle.mq_told.proofs.told.tell.Goals as goal
 
-pub behind-requires : goal.behind-requires
-behind-requires c = front_low c.args.framed.now c.front_of-front.result.framed c.as_slice.result.now c.front_of-front.ensures.is c.as_slice.ensures
+pub behind-rest-requires : goal.behind-rest-requires
+behind-rest-requires c = front_low c.args.framed.now c.front_of-front.result.framed c.as_slice.result.now c.front_of-front.ensures.is c.as_slice.ensures
 
 pub go_on-requires : goal.go_on-requires
 go_on-requires c = c.front_of-front.ensures.told
