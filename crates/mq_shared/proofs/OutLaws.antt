@@ -17,11 +17,11 @@ use Rattle.mq_events.specs.States.{NodeState, value_of}
 use Rattle.mq_split.specs.Facing.{AreJoined, Facing}
 use Rattle.mq_split.specs.Took.{EndState}
 use Rattle.mq_split.specs.Ends.{IsEndAt, end_name}
-use Rattle.mq_nodes.specs.Told.{KeptSo, first_until}
+use Rattle.mq_nodes.specs.Told.{first_until}
 use Rattle.mq_shared.specs.Held.{Begun, IsScriptIn, ScriptState, TriedSo, cables_begun, entries_begun, entries_or}
 use Rattle.mq_split.specs.Parting.{AreEnds, AreEndsAt, IsAmong, ends_named}
 use Rattle.mq_shared.specs.Phasing.{IsCourse, NodeRan, entries_in}
-use Rattle.mq_shared.specs.Sharing.{course_then, until_of}
+use Rattle.mq_shared.specs.Sharing.{course_then, kept_course, until_of}
 use Rattle.mq_shared.specs.Taking.{AreOut, IsOut, since_of}
 use Rattle.mq_shared.proofs.KeptLaws.{grown_entries}
 use Rattle.mq_shared.proofs.LineKept.{other_script}
@@ -96,21 +96,30 @@ kept_line moment l until (inr e) = ap (λ (u : Option ℕ). deadline_kept u mome
     again None = refl
     again (Some w) = refl
 
-pub first_is : (moment : ℕ) (l : ScriptLine) (n : ℕ) (ls : List ScriptLine) → slice_get ls n ≡ Some l → first_until moment (drop n ls) ≡ deadline moment (wait_of l)
-first_is moment l n [] h = absurd cc
-first_is moment l zero (x ∷ ls) h = ap (λ (o : Option ScriptLine). line_until moment o) h
+abbrev pub line_until : ℕ → Option ScriptLine → Option ℕ
+line_until moment None = None
+line_until moment (Some l) = deadline moment (wait_of l)
+
+-- the first of the lines that are left is the next one
+pub first_at : (moment n : ℕ) (ls : List ScriptLine) → first_until moment (drop n ls) ≡ line_until moment (slice_get ls n)
+first_at moment zero [] = refl
+first_at moment (suc n) [] = refl
+first_at moment zero (l ∷ ls) = refl
+first_at moment (suc n) (l ∷ ls) = first_at moment n ls
+
+pub kept_first : (moment : ℕ) (p : ScriptPart) (c : Course) → ((l : ScriptLine) → slice_get p.lines c.done ≡ Some l → TriedSo moment l c.until) → until_of c moment (slice_get p.lines c.done) ≡ first_until moment (drop c.done p.lines)
+kept_first moment p c tried = kept_at (slice_get p.lines c.done) refl ∙ sym (first_at moment c.done p.lines)
   where
-    line_until : ℕ → Option ScriptLine → Option ℕ
-    line_until t None = None
-    line_until t (Some y) = deadline t (wait_of y)
-first_is moment l (suc n) (x ∷ ls) h = first_is moment l n ls h
+    kept_at : (o : Option ScriptLine) → slice_get p.lines c.done ≡ o → until_of c moment (slice_get p.lines c.done) ≡ line_until moment (slice_get p.lines c.done)
+    kept_at None at = ap (until_of c moment) at ∙ sym (ap (line_until moment) at)
+    kept_at (Some l) at = ap (until_of c moment) at ∙ kept_line moment l c.until (tried l at) ∙ sym (ap (line_until moment) at)
 
 pub course_back : (b : Begun) (m : ℕ) (es : List Entry) (s : ScriptState) → IsScriptIn b m es s → IsCourse (Some s.moment) s.script s.part es (course_then s)
-course_back b m es s h = record { stands = record { memory = h.stands.memory; done = h.stands.done }; few = h.few; rests = kept_at (slice_get s.part.lines s.course.done) refl }
-  where
-    kept_at : (o : Option ScriptLine) → slice_get s.part.lines s.course.done ≡ o → KeptSo (Some s.moment) (drop s.course.done s.part.lines) (until_of s.course s.moment (slice_get s.part.lines s.course.done))
-    kept_at None at = inl (ap (until_of s.course s.moment) at)
-    kept_at (Some l) at = inr (ap (until_of s.course s.moment) at ∙ kept_line s.moment l s.course.until (h.tried l at) ∙ sym (first_is s.moment l s.course.done s.part.lines at))
+course_back b m es s h = record { stands = record { memory = h.stands.memory; done = h.stands.done }; few = h.few; rests = kept_first s.moment s.part s.course h.tried }
+
+-- also where nothing of it was done
+pub course_kept : (moment k : ℕ) (p : ScriptPart) (es : List Entry) (c : Course) → IsCourse None k p es c → IsCourse (Some moment) k p es (kept_course moment p c)
+course_kept moment k p es c i = record { stands = record { memory = i.stands.memory; done = i.stands.done }; few = i.few; rests = kept_first moment p c (λ l at. inl i.rests) }
 
 -- and one that is none of the phase stands where it stood
 line_script : (j : ℕ) (t : Trying) (done : List Entry) (ls : List ScriptLine) (m : ℕ) (e : Entry) → PhaseLine j t done ls m e → t.script ≡ j

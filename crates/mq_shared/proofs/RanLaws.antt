@@ -1,6 +1,7 @@
 -- A phase that ran, and one that did nothing.
-use Rattle.std.proofs.Common.{◌≡◌, ℕ, ◌≤◌, ◌<◌, Bool, true, false, List, [], ◌++◌, length, refl, sym, ap, subst, ◌∙◌, append-nil, inl, ⊎_elim, arith}
-use Rattle.std.specs.Prelude.{Some, None, Result, Ok, Err, slice_get}
+use Rattle.std.proofs.Common.{◌≡◌, ◌≢◌, ℕ, ◌+◌, ◌≤◌, ◌<◌, Bool, true, false, List, [], ◌++◌, length, refl, sym, ap, subst, ◌∙◌, append-nil, ⊎_elim, arith}
+use Rattle.std.specs.Prelude.{◌==◌, Some, None, Result, Ok, Err, slice_get}
+use Rattle.std.proofs.lemmas.Bool.Decides.{nat_tests}
 use Rattle.atomic_table.specs.Seated.{TableId}
 use Rattle.mq_base.specs.Members.{Mem}
 use Rattle.mq_history.specs.Scenarios.{IsCable}
@@ -18,26 +19,63 @@ use Rattle.mq_split.specs.Took.{EndState}
 use Rattle.mq_split.specs.Ends.{EachIs}
 use Rattle.mq_shared.specs.Held.{Begun, cables_begun, entries_begun, entries_or}
 use Rattle.mq_split.specs.Parting.{AreEnds, IsAmong, ends_named}
-use Rattle.mq_shared.specs.Phasing.{AreLeft, IsCourse, MayPhase, NodeRan, PhaseEnds, PhaseOwn, PhaseRan, ShortBehind, among, entries_in, if_among, moment_or, tries_in}
-use Rattle.mq_shared.specs.Sharing.{begun_with}
+use Rattle.mq_shared.specs.Phasing.{AreCourses, AreLeft, IsCourse, MayPhase, NodeRan, PhaseEnds, PhaseOwn, PhaseRan, ShortBehind, among, entries_in, if_among, moment_or, tries_in}
+use Rattle.mq_shared.specs.Sharing.{begun_with, kept_course, kept_if}
 use Rattle.mq_shared.specs.Taking.{AreBack, AreOut, Asked, Begins, IsOut, OthersStay, OwnOut, since_of}
-use Rattle.mq_shared.proofs.OutLaws.{course_stays, joined_on, others_none, out_ends, out_entries, out_ran}
-use Rattle.mq_shared.proofs.ShareLists.{at_it, less, mem_any, some_is, there, true_or_false}
+use Rattle.mq_shared.proofs.OutLaws.{course_kept, course_stays, joined_on, others_none, out_ends, out_entries, out_ran}
+use Rattle.mq_shared.proofs.ShareLists.{are_same, at_it, less, mem_any, set_here, set_long, set_other, some_is, there, true_or_false}
 use Rattle.mq_shared.proofs.ShareLaws.{by_at, mem_try}
 
--- NOTHING WAS DONE: where no get waits, none that was tried has another deadline
-left_so : (b : Bool) (moment k : ℕ) (p : ScriptPart) (es : List Entry) (c : Course) → IsCourse None k p es c → IsCourse (if_among b moment) k p es c
-left_so true moment k p es c i = record { stands = i.stands; few = i.few; rests = inl i.rests }
-left_so false moment k p es c i = i
+-- NOTHING WAS DONE: but the next line of each script of the phase counts as tried, place by place
+left_one : (b : Bool) (moment k : ℕ) (p : ScriptPart) (es : List Entry) (c d : Course) (cs ds : List Course) → slice_get cs k ≡ Some c → ds ≡ kept_if b k (kept_course moment p c) cs → slice_get ds k ≡ Some d → IsCourse None k p es c → IsCourse (if_among b moment) k p es d
+left_one true moment k p es c d cs ds found new now is =
+    let lt : k < length cs = less cs k c found in
+    let same : kept_course moment p c ≡ d = some_is (kept_course moment p c) d (sym (set_here cs k (kept_course moment p c) lt) ∙ ap (λ (l : List Course). slice_get l k) (sym new) ∙ now) in
+    subst (λ (x : Course). IsCourse (Some moment) k p es x) same (course_kept moment k p es c is)
+left_one false moment k p es c d cs ds found new now is =
+    let same : c ≡ d = some_is c d (sym found ∙ ap (λ (l : List Course). slice_get l k) (sym new) ∙ now) in
+    subst (λ (x : Course). IsCourse None k p es x) same is
 
-pub nothing_ran : (s : Scenario) (ks : List ℕ) (ns : List NodeState) (cs : List Course) (ws : List CableState) (r : Result (Unit {0}) Stop) → MayPhase s ks ns cs ws → PhaseEnds r ns → PhaseRan s ks ns r ns cs ws
-nothing_ran s ks ns cs ws r may ends = record {
+pub kept_other : (b : Bool) (k j : ℕ) (c : Course) (cs ds : List Course) → ds ≡ kept_if b k c cs → j ≢ k → slice_get ds j ≡ slice_get cs j
+kept_other true k j c cs ds new apart = ap (λ (l : List Course). slice_get l j) new ∙ set_other cs k j c apart
+kept_other false k j c cs ds new apart = ap (λ (l : List Course). slice_get l j) new
+
+pub kept_long : (b : Bool) (k : ℕ) (c : Course) (cs ds : List Course) → ds ≡ kept_if b k c cs → length ds ≡ length cs
+kept_long true k c cs ds new = ap length new ∙ set_long cs k c
+kept_long false k c cs ds new = ap length new
+
+-- those before a place
+abbrev pub LeftBelow : Scenario → List ℕ → List NodeState → ℕ → List Course → Type 0
+LeftBelow s ks ns n cs = (k : ℕ) (p : ScriptPart) (c : Course) → k < n → slice_get s.scripts k ≡ Some p → slice_get cs k ≡ Some c → IsCourse (if_among (among ks k) (moment_or (slice_get ns p.manager))) k p (entries_in ns p.manager) c
+
+pub left_on : (s : Scenario) (ks : List ℕ) (ns : List NodeState) (at : ℕ) (p : ScriptPart) (c : Course) (first cs ds : List Course) → AreCourses s ns first → slice_get s.scripts at ≡ Some p → slice_get cs at ≡ Some c → slice_get first at ≡ Some c
+    → ds ≡ kept_if (among ks at) at (kept_course (moment_or (slice_get ns p.manager)) p c) cs → LeftBelow s ks ns at cs → LeftBelow s ks ns (at + 1) ds
+left_on s ks ns at p c first cs ds are part found was new left k q d lt is now = ⊎_elim
+    (λ (e : (k == at) ≡ true). here (are_same k at e))
+    (λ (e : (k == at) ≡ false). let other : k ≢ at = differ e in left k q d (omega (arith, lt, below e)) is (sym (kept_other (among ks at) at k (kept_course (moment_or (slice_get ns p.manager)) p c) cs ds new other) ∙ now))
+    (true_or_false (k == at))
+  where
+    below : (k == at) ≡ false → k < at
+    below e = grind (arith, nat_tests)
+
+    differ : (k == at) ≡ false → k ≢ at
+    differ e same = let under = below e in omega (arith, under, same)
+
+    here : k ≡ at → IsCourse (if_among (among ks k) (moment_or (slice_get ns q.manager))) k q (entries_in ns q.manager) d
+    here same =
+        let part_is : p ≡ q = some_is p q (sym part ∙ ap (slice_get s.scripts) (sym same) ∙ is) in
+        subst (λ (i : ℕ). IsCourse (if_among (among ks i) (moment_or (slice_get ns q.manager))) i q (entries_in ns q.manager) d) (sym same)
+        (subst (λ (x : ScriptPart). IsCourse (if_among (among ks at) (moment_or (slice_get ns x.manager))) at x (entries_in ns x.manager) d) part_is
+        (left_one (among ks at) (moment_or (slice_get ns p.manager)) at p (entries_in ns p.manager) c d cs ds found new (ap (slice_get ds) (sym same) ∙ now) (are at p c part was)))
+
+pub nothing_ran : (s : Scenario) (ks : List ℕ) (ns : List NodeState) (cs ds : List Course) (ws : List CableState) (r : Result (Unit {0}) Stop) → MayPhase s ks ns cs ws → length ds ≡ length cs → AreLeft s ks ns ns ds → PhaseEnds r ns → PhaseRan s ks ns r ns ds ws
+nothing_ran s ks ns cs ds ws r may long left ends = record {
   since = λ m. [];
   others = λ m far. refl;
   managers = refl;
   nodes = λ m n new at again. let same : n ≡ new = some_is n new (sym at ∙ again) in subst (NodeRan (tries_in s ns ks) m [] n) same (stays m n at);
-  scripts = may.scripts;
-  courses = λ k p c part at. left_so (among ks k) (moment_or (slice_get ns p.manager)) k p (entries_in ns p.manager) c (may.courses k p c part at);
+  scripts = long ∙ may.scripts;
+  courses = left;
   cables = may.cables;
   ways = may.ways;
   ends = ends;

@@ -56,6 +56,11 @@ until_of c moment (Some l) = until_in c moment l
 abbrev pub kept_course : ℕ → ScriptPart → Course → Course
 kept_course moment p c = record c { until = until_of c moment (slice_get p.lines c.done) }
 
+-- where a script is one of a phase's
+abbrev pub kept_if : Bool → ℕ → Course → List Course → List Course
+kept_if true k c cs = slice_set cs k c
+kept_if false k c cs = cs
+
 abbrev pub course_then : ScriptState → Course
 course_then s = kept_course s.moment s.part s.course
 

@@ -1,15 +1,18 @@
-//! Courses of scripts: they go out of their places for a phase, and back.
+//! Courses of scripts: they go out of their places for a phase, and back; and the deadlines of gets that are kept behind it.
 ghost use Rattle.std.specs.Prelude.{◌≡◌, ◌≤◌, ◌<◌, ◌+◌, ◌^◌, ◌++◌, ◌∷◌, ℕ, IfOk, [], Some, false, length, map, slice_get, slice_set};
+ghost use Rattle.mq_history.specs.Scenarios.{IsScenario};
 ghost use Rattle.mq_spec_node.specs.Terms as terms;
 ghost use Rattle.mq_progress.specs.Course as progress;
 ghost use Rattle.mq_split.specs.Ends.{EachIs};
 ghost use Rattle.mq_shared.specs.Held.{Begun, IsScriptIn, ScriptState, entries_begun, script_name};
-ghost use Rattle.mq_shared.specs.Phasing.{among, moment_or};
-ghost use Rattle.mq_shared.specs.Sharing.{is_here, kept_course, last_if, named, out_if, put_all, unbegun, until_of};
+ghost use Rattle.mq_shared.specs.Phasing.{AreCourses, AreLeft, among, moment_or};
+ghost use Rattle.mq_shared.specs.Sharing.{is_here, kept_course, kept_if, last_if, named, out_if, put_all, unbegun, until_of};
 ghost use Rattle.mq_shared.specs.Taking.{Begins, CoursesAt, RowsWait};
 
 use crate::held::HeldScript;
 use mq_base::{Items, NoMemory};
+use mq_disk::Disk;
+use mq_events::Node;
 use mq_history::{Scenario, ScriptPart};
 use mq_progress::Progress;
 use std::alloc::Global;
@@ -48,6 +51,14 @@ fn until_from(course: &Progress, part: &ScriptPart, moment: u64) -> Option<u64>
     }
 }
 
+/// The next line of a script counts as tried at a moment: the deadline of its get is kept, from that moment on.
+fn keep_deadline(course: &mut Progress, part: &ScriptPart, moment: u64)
+    ensures { course.new ≡ kept_course moment part.now course.old }
+{
+    let until = until_from(course, part, moment);
+    course.wait(until);
+}
+
 /// Puts a course into its place; the deadline of its next line's get is kept, from the moment of its first try.
 fn put_course(
     courses: &mut Items<Progress>,
@@ -59,8 +70,7 @@ fn put_course(
     requires { at < length courses.old }
     ensures { courses.new ≡ slice_set courses.old at (kept_course moment part.now course) }
 {
-    let until = until_from(&course, part, moment);
-    course.wait(until);
+    keep_deadline(&mut course, part, moment);
     *courses.at_mut(at) = course;
 }
 
@@ -211,5 +221,55 @@ pub fn put_courses(mut held: Items<HeldScript<'_>>, courses: &mut Items<Progress
             progress,
         } = script;
         put_course(courses, usize::from(at), part, moment, progress);
+    }
+}
+
+/// The moment of a manager, in milliseconds since 1970; 0 where there is none.
+fn moment_at<D: Disk>(nodes: &Items<Node<D>>, manager: u16) -> u64
+    ensures { result ≡ moment_or (slice_get nodes.now manager) }
+{
+    match nodes.get(usize::from(manager)) {
+        None => 0,
+        Some(node) => node.moment(),
+    }
+}
+
+/// The next line of the script at a place counts as tried at its manager's moment, where it is one of these.
+fn keep_one<D: Disk>(
+    scenario: &Scenario,
+    scripts: &[u16],
+    nodes: &Items<Node<D>>,
+    at: usize,
+    courses: &mut Items<Progress>,
+)
+    requires there { at < length scenario.now.scripts }
+    requires course { at < length courses.old }
+    requires few { at < 2 ^ 16 }
+    ensures { (p : terms.ScriptPart) (c : progress.Course) → slice_get scenario.now.scripts at ≡ Some p → slice_get courses.old at ≡ Some c → courses.new ≡ kept_if (among scripts.now at) at (kept_course (moment_or (slice_get nodes.now p.manager)) p c) courses.old }
+{
+    if !is_among(scripts, at as u16) {
+        return;
+    }
+    let part = &scenario.scripts.as_slice()[at];
+    let moment = moment_at(nodes, part.manager);
+    keep_deadline(courses.at_mut(at), part, moment);
+}
+
+/// Where nothing of a phase is done, the next line of each of its scripts counts as tried all the same, at the moment of its manager: the
+/// deadline of its get is kept. It takes no memory.
+pub fn keep_deadlines<D: Disk>(
+    scenario: &Scenario,
+    scripts: &[u16],
+    nodes: &Items<Node<D>>,
+    courses: &mut Items<Progress>,
+)
+    requires scenario { IsScenario scenario.now }
+    requires long { length courses.old ≡ length scenario.now.scripts }
+    requires courses { AreCourses scenario.now nodes.now courses.old }
+    ensures long { length courses.new ≡ length courses.old }
+    ensures left { AreLeft scenario.now scripts.now nodes.now nodes.now courses.new }
+{
+    for at in 0..scenario.scripts.len() {
+        keep_one(scenario, scripts, nodes, at, courses);
     }
 }

@@ -9,7 +9,7 @@ ghost use Rattle.mq_shared.specs.Phasing.{MayPhase, PhaseEnds, PhaseOwn, PhaseRa
 ghost use Rattle.mq_shared.specs.Sharing.{begun_with};
 ghost use Rattle.mq_shared.specs.Taking.{AreDone, Asked, RowsWait};
 
-use crate::courses::{ScriptRow, room_for_scripts};
+use crate::courses::{ScriptRow, keep_deadlines, room_for_scripts};
 use crate::jobs::{Job, run_all};
 use crate::locked::{Locked, PhaseName};
 use crate::sharing::{lock_all, take_all};
@@ -198,6 +198,7 @@ fn run<'x, P: PhaseName + Send + Sync, D: Disk + Send, R: Threads + Wait + Sync,
     match room_for::<P, D, R>(alloc, nodes.len(), cables.len(), courses.len()) {
         Err(NoMemory) => {
             close_cables(rt, pipes, passes, cables);
+            keep_deadlines(scenario, scripts, nodes, courses);
             Err(Stop::NoMemory)
         }
         Ok(room) => run_in(
@@ -207,9 +208,9 @@ fn run<'x, P: PhaseName + Send + Sync, D: Disk + Send, R: Threads + Wait + Sync,
 }
 
 /// Runs scripts, places in the scenario, and the ends of all channels in threads. Nodes, courses of scripts and cables are the
-/// scenario's, in its order. Behind it the next line of each of its scripts that is a get keeps its deadline, from the moment with which the phase
-/// began; no other get waits. Where a direction of a cable holds
-/// more than 64 items it does nothing; where none did, and memory was not wanting, none does behind it.
+/// scenario's, in its order. Behind it the next line of each of its scripts counts as tried at the moment with which the phase began: where it is
+/// a get, its deadline is kept from then; no other get waits. Where a direction of a cable holds more than 64 items it does nothing else; where
+/// none did, and memory was not wanting, none does behind it.
 ///
 /// # Errors
 ///
@@ -230,10 +231,14 @@ pub fn phase<D: Disk + Send, R: Threads + Wait + Sync, G: Gate + Sync>(
     ensures short { EachCable IsShort cables.old → ShortBehind result cables.new }
 {
     if !are_short(cables) {
+        keep_deadlines(scenario, scripts, nodes, courses);
         return Ok(());
     }
     match open_cables(rt, alloc, cables) {
-        Err(NoMemory) => Err(Stop::NoMemory),
+        Err(NoMemory) => {
+            keep_deadlines(scenario, scripts, nodes, courses);
+            Err(Stop::NoMemory)
+        }
         Ok((pipes, passes)) => run::<Brand, D, R, G>(
             rt,
             alloc,

@@ -1,5 +1,5 @@
 -- A phase in threads: what it asks of a network holds, and behind it the network is one again, which tells of it.
-use Rattle.std.proofs.Common.{◌≡◌, ℕ, ◌+◌, ◌<◌, ◌≤◌, nat_le, Bool, true, false, List, [], ◌∷◌, ◌++◌, length, refl, sym, ap, subst, ◌∙◌, inl, inr, arith}
+use Rattle.std.proofs.Common.{◌≡◌, ℕ, ◌+◌, ◌<◌, ◌≤◌, nat_le, Bool, true, false, List, [], ◌∷◌, ◌++◌, length, refl, sym, ap, subst, ◌∙◌, arith}
 use Rattle.std.specs.Prelude.{IsSome, drop, map, Option, Some, None, Result, Ok, Err, option_map, slice_get}
 use Rattle.std.proofs.lemmas.Bool.Decides.{nat_tests}
 use Rattle.std.proofs.lemmas.Option.{slice_get_within}
@@ -31,7 +31,7 @@ use Rattle.mq_nodes.specs.Told.{IsTried, KeptSo, Phased, PhaseTold}
 use Rattle.mq_course.specs.Courses.{marks_or_absent, net_of}
 use Rattle.mq_shared.specs.Held.{entries_or as entries_of_node}
 use Rattle.mq_shared.specs.Phasing.{MayPhase, NodeRan, among, if_among, PhaseEnds, PhaseOwn, PhaseRan, entries_in, moment_or, tries_in, tries_one}
-use Rattle.mq_shared.proofs.OutLaws.{first_is}
+use Rattle.mq_shared.proofs.OutLaws.{first_at, line_until}
 use Rattle.mq_shared.proofs.ShareLists.{any_mem, mem_any}
 use Rattle.mq_world.specs.Worlds.{IsNetwork, IsNodeAt, NetState, StaysOwnIn, WaitsSo, course_in, history_in, until_of, waits_in}
 use Rattle.mq_world.proofs.LiftLaws.{ready_node}
@@ -70,8 +70,7 @@ may_phase w ks h ready rests phased = record {
 -- WHAT THE TYPE KEEPS
 waits_so : (tried : Option ℕ) (ls : List ScriptLine) (n : ℕ) (l : ScriptLine) (until : Option ℕ) → slice_get ls n ≡ Some l → KeptSo tried (drop n ls) until → WaitsSo until l
 waits_so None ls n l until is h = subst (λ (u : Option ℕ). WaitsSo u l) (sym h) tt
-waits_so (Some moment) ls n l until is (inl h) = subst (λ (u : Option ℕ). WaitsSo u l) (sym h) tt
-waits_so (Some moment) ls n l until is (inr h) = subst (λ (u : Option ℕ). WaitsSo u l) (sym (h ∙ first_is moment l n ls is)) (by_wait (wait_of l) refl)
+waits_so (Some moment) ls n l until is h = subst (λ (u : Option ℕ). WaitsSo u l) (sym (h ∙ first_at moment n ls ∙ ap (line_until moment) is)) (by_wait (wait_of l) refl)
   where
     by_wait : (wait : Option ℕ) → wait_of l ≡ wait → WaitsSo (deadline moment wait) l
     by_wait None e = tt

@@ -76,6 +76,6 @@ returns-in-Err-clause-ran g c =
     let s = c.args.scenario.now in
     let ks = c.args.scripts.now in
     let ns = c.args.nodes.now in
-    let cs = c.args.courses.now in
-    subst (λ (ws : List CableState). PhaseRan s ks ns (Err stops.NoMemory) ns cs ws) (sym c.close_cables.ensures)
-    (nothing_ran s ks ns cs (wholes c.args.passes.items c.args.cables.now) (Err stops.NoMemory) c.requires.may tt)
+    let kept = c.keep_deadlines in
+    subst (λ (ws : List CableState). PhaseRan s ks ns (Err stops.NoMemory) ns kept.new.courses ws) (sym c.close_cables.ensures)
+    (nothing_ran s ks ns c.args.courses.now kept.new.courses (wholes c.args.passes.items c.args.cables.now) (Err stops.NoMemory) c.requires.may kept.ensures.long kept.ensures.left tt)
