@@ -1,6 +1,6 @@
 -- Nodes go under their locks and come out of them, one by one: what is known of nodes, ends and courses goes on.
 use Rattle.std.proofs.Common.{◌≡◌, ◌≢◌, ℕ, ◌+◌, ◌≤◌, ◌<◌, Bool, true, false, List, [], ◌∷◌, ◌++◌, length, map, refl, sym, ap, subst, ◌∙◌, inl, inr, ⊎_elim, arith}
-use Rattle.std.specs.Prelude.{◌⊎◌, ◌==◌, ◌&&◌, Some, slice_get}
+use Rattle.std.specs.Prelude.{◌⊎◌, ◌==◌, ◌&&◌, Option, Some, slice_get}
 use Rattle.mq_base.specs.Members.{Mem}
 use Rattle.mq_spec_node.specs.Terms.{Entry, ScriptPart}
 use Rattle.mq_spec_network.specs.Tasks.{Trying}
