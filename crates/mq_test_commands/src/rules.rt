@@ -4,8 +4,8 @@ use mq_base::{Items, QName};
 use mq_heads::Dlh;
 use mq_message::Md;
 use mq_rules::{Action, Condition, NumberField, Rule, Table, Target, TextField, Wait, decide};
-use std::alloc::{AllocError, Global};
-use std::test::Fail;
+use std::alloc::Global;
+use std::test::*;
 
 /// A descriptor whose texts are those of a message put by `app` for `user`.
 fn descriptor() -> Md {
@@ -60,18 +60,30 @@ fn header() -> Dlh {
     }
 }
 
-fn text(alloc: Global, field: TextField, pattern: &[u8]) -> Result<Condition, AllocError> {
-    Ok(Condition::Text(field, Items::from_slice(alloc, pattern)?))
+/// A condition on a field of text; nothing, where memory lacks.
+fn text(alloc: Global, field: TextField, pattern: &[u8]) -> Option<Condition> {
+    match Items::from_slice(alloc, pattern) {
+        Ok(pattern) => Some(Condition::Text(field, pattern)),
+        Err(_) => None,
+    }
 }
 
-fn rule(alloc: Global, condition: Condition) -> Result<Rule, AllocError> {
-    let mut conditions = Items::new(alloc);
-    conditions.push(condition)?;
-    Ok(Rule {
+fn rule_of(conditions: Items<Condition>) -> Rule {
+    Rule {
         conditions,
         action: Action::Retry,
         retries: 1,
-    })
+    }
+}
+
+/// Puts a rule of this condition behind the others; false, where memory lacks.
+fn push(alloc: Global, rules: &mut Items<Rule>, condition: Option<Condition>) -> bool {
+    let mut conditions = Items::new(alloc);
+    let pushed = match condition {
+        Some(condition) => conditions.push(condition).is_ok(),
+        None => false,
+    };
+    pushed && rules.push(rule_of(conditions)).is_ok()
 }
 
 fn of_rules(rules: Items<Rule>) -> Table {
@@ -83,119 +95,148 @@ fn of_rules(rules: Items<Rule>) -> Table {
     }
 }
 
-/// A table of one rule, for a pattern of the destination queue's field.
-fn one_pattern(alloc: Global, pattern: &[u8]) -> Result<Table, AllocError> {
-    let mut rules = Items::new(alloc);
-    rules.push(rule(alloc, text(alloc, TextField::DestQueue, pattern)?)?)?;
-    Ok(of_rules(rules))
-}
-
-/// Whether the text in the destination queue's field is like the pattern.
-fn is_like(alloc: Global, pattern: &[u8], text: &[u8]) -> Result<bool, AllocError> {
+/// A header with this text in the destination queue's field.
+fn header_to(text: &[u8]) -> Dlh {
     let mut header = header();
     header.dest_q_name = [b' '; 48];
     for (place, byte) in header.dest_q_name.iter_mut().zip(text.iter()) {
         *place = *byte;
     }
-    let table = one_pattern(alloc, pattern)?;
-    Ok(decide(&table, &descriptor(), &header, 0).is_some())
+    header
+}
+
+/// Which rule is chosen, from that one on.
+fn chosen(table: &Table, header: &Dlh, from: u32) -> Option<u32> {
+    decide(table, &descriptor(), header, from)
+}
+
+/// Whether a rule for this pattern of the destination queue's field is chosen for this text, or not.
+fn is_chosen(alloc: Global, pattern: &[u8], header: &Dlh, alike: bool) -> bool {
+    let mut rules = Items::new(alloc);
+    push(
+        alloc,
+        &mut rules,
+        text(alloc, TextField::DestQueue, pattern),
+    ) && chosen(&of_rules(rules), header, 0).is_some() == alike
+}
+
+/// A pattern, a text, and whether they are alike.
+const PATTERNS: [(&[u8], &[u8], bool); 17] = [
+    (&[b'*'; 48], &[b'a'; 48], true),
+    (b"", b"", true),
+    (b"", b"A", false),
+    (b"A", b"A", true),
+    (b"A", b"AB", false),
+    (b"AB", b"A", false),
+    (b"?", b"A", true),
+    (b"?", b"", false),
+    (b"A?C", b"ABC", true),
+    (b"*", b"", true),
+    (b"*", b"ABC", true),
+    (b"A*", b"BA", false),
+    (b"*A*B", b"xAyAzB", true),
+    (b"*A*B", b"xAyAzBc", false),
+    (b"a", b"A", false),
+    (b"A ", b"A", false),
+    (b"*?*?", b"A", false),
+];
+
+#[test]
+fn a_star_is_any_text_and_a_question_mark_any_byte(rt: HostRuntime) {
+    for (row, (pattern, text, alike)) in PATTERNS.iter().enumerate() {
+        assert!(rt;
+            is_chosen(rt.alloc(), pattern, &header_to(text), *alike),
+            "row {row}"
+        );
+    }
+}
+
+/// Fields of texts, and what stands there.
+const TEXTS: [(TextField, &[u8]); 8] = [
+    (TextField::IdentityData, b""),
+    (TextField::ApplicationName, b"app"),
+    (TextField::DestQueue, b"NOQ"),
+    (TextField::DestQueueManager, b"PARIS"),
+    (TextField::Format, b"MQSTR"),
+    (TextField::ReplyQueue, b"BACK"),
+    (
+        TextField::ReplyQueueManager,
+        b"????????????????????????????????????????????????",
+    ),
+    (TextField::UserIdentifier, b"user"),
+];
+
+/// Fields of numbers, and what stands there.
+const NUMBERS: [(NumberField, i32); 5] = [
+    (NumberField::ApplicationType, 6),
+    (NumberField::Feedback, 0),
+    (NumberField::MessageType, 8),
+    (NumberField::Persistence, 1),
+    (NumberField::Reason, 2085),
+];
+
+/// A table with a rule for each field; with fewer, where memory lacks.
+fn each_field(alloc: Global) -> Table {
+    let mut rules = Items::new(alloc);
+    for (field, pattern) in &TEXTS {
+        let _pushed = push(alloc, &mut rules, text(alloc, *field, pattern));
+    }
+    for (field, value) in &NUMBERS {
+        let _pushed = push(alloc, &mut rules, Some(Condition::Number(*field, *value)));
+    }
+    of_rules(rules)
 }
 
 #[test]
-fn a_star_is_any_text_and_a_question_mark_any_byte(rt: HostRuntime) -> Result<(), Fail> {
-    let rows: [(&[u8], &[u8], bool); 17] = [
-        (&[b'*'; 48], &[b'a'; 48], true),
-        (b"", b"", true),
-        (b"", b"A", false),
-        (b"A", b"A", true),
-        (b"A", b"AB", false),
-        (b"AB", b"A", false),
-        (b"?", b"A", true),
-        (b"?", b"", false),
-        (b"A?C", b"ABC", true),
-        (b"*", b"", true),
-        (b"*", b"ABC", true),
-        (b"A*", b"BA", false),
-        (b"*A*B", b"xAyAzB", true),
-        (b"*A*B", b"xAyAzBc", false),
-        (b"a", b"A", false),
-        (b"A ", b"A", false),
-        (b"*?*?", b"A", false),
-    ];
-    for (at, (pattern, text, alike)) in rows.iter().enumerate() {
-        assert_eq!(rt; is_like(rt.alloc(), pattern, text)?, *alike, "row {at}");
-    }
-    Ok(())
-}
-
-#[test]
-fn each_field_is_looked_up_where_it_stands(rt: HostRuntime) -> Result<(), Fail> {
-    let texts: [(TextField, &[u8]); 8] = [
-        (TextField::IdentityData, b""),
-        (TextField::ApplicationName, b"app"),
-        (TextField::DestQueue, b"NOQ"),
-        (TextField::DestQueueManager, b"PARIS"),
-        (TextField::Format, b"MQSTR"),
-        (TextField::ReplyQueue, b"BACK"),
-        (
-            TextField::ReplyQueueManager,
-            b"????????????????????????????????????????????????",
-        ),
-        (TextField::UserIdentifier, b"user"),
-    ];
-    let mut rules = Items::new(rt.alloc());
-    for (field, pattern) in texts {
-        rules.push(rule(rt.alloc(), text(rt.alloc(), field, pattern)?)?)?;
-    }
-    let numbers = [
-        (NumberField::ApplicationType, 6),
-        (NumberField::Feedback, 0),
-        (NumberField::MessageType, 8),
-        (NumberField::Persistence, 1),
-        (NumberField::Reason, 2085),
-    ];
-    for (field, value) in numbers {
-        rules.push(rule(rt.alloc(), Condition::Number(field, value))?)?;
-    }
-    let table = of_rules(rules);
+fn each_field_is_looked_up_where_it_stands(rt: HostRuntime) {
+    let table = each_field(rt.alloc());
+    let header = header();
     for from in 0..13u32 {
-        assert!(rt;
-            decide(&table, &descriptor(), &header(), from) == Some(from),
-            "rule {from}"
-        );
+        assert!(rt; chosen(&table, &header, from) == Some(from), "rule {from}");
     }
-    assert!(rt; decide(&table, &descriptor(), &header(), 13).is_none());
-    assert!(rt; decide(&table, &descriptor(), &header(), 4294967295).is_none());
-    Ok(())
+    for from in [13, 4294967295] {
+        assert!(rt; chosen(&table, &header, from).is_none(), "from {from}");
+    }
+}
+
+/// A table of three rules, of which the first doesn't match; with fewer, where memory lacks.
+fn three(alloc: Global) -> Table {
+    let mut rules = Items::new(alloc);
+    let reason = Condition::Number(NumberField::Reason, 2053);
+    let _pushed = push(alloc, &mut rules, Some(reason))
+        && push(alloc, &mut rules, text(alloc, TextField::Format, b"MQ*"))
+        && push(alloc, &mut rules, text(alloc, TextField::DestQueue, b"N?Q"));
+    of_rules(rules)
+}
+
+/// From which rule is looked, and which is chosen.
+const CHOSEN: [(u32, Option<u32>); 4] = [(0, Some(1)), (1, Some(1)), (2, Some(2)), (3, None)];
+
+#[test]
+fn the_first_rule_that_matches_is_chosen(rt: HostRuntime) {
+    let table = three(rt.alloc());
+    let header = header();
+    for (from, first) in &CHOSEN {
+        assert!(rt; chosen(&table, &header, *from) == *first, "from {from}");
+    }
+}
+
+/// Targets, and the names that they have.
+const TARGETS: [(Target, &[u8]); 4] = [
+    (Target::DestQueue, b"NOQ"),
+    (Target::DestQueueManager, b"PARIS"),
+    (Target::ReplyQueue, b"BACK"),
+    (Target::ReplyQueueManager, b""),
+];
+
+/// Whether a target is this name.
+fn is_name(target: &Target, name: &[u8]) -> bool {
+    target.name(&descriptor(), &header()).text() == name
 }
 
 #[test]
-fn the_first_rule_that_matches_is_chosen(rt: HostRuntime) -> Result<(), Fail> {
-    let mut rules = Items::new(rt.alloc());
-    rules.push(rule(rt.alloc(), Condition::Number(NumberField::Reason, 2053))?)?;
-    rules.push(rule(rt.alloc(), text(rt.alloc(), TextField::Format, b"MQ*")?)?)?;
-    rules.push(rule(rt.alloc(), text(rt.alloc(), TextField::DestQueue, b"N?Q")?)?)?;
-    let table = of_rules(rules);
-    for (from, first) in [(0, Some(1)), (1, Some(1)), (2, Some(2)), (3, None)] {
-        assert!(rt;
-            decide(&table, &descriptor(), &header(), from) == first,
-            "from {from}"
-        );
+fn targets_name_fields_of_the_two_headers(rt: HostRuntime) {
+    for (row, (target, name)) in TARGETS.iter().enumerate() {
+        assert!(rt; is_name(target, name), "row {row}");
     }
-    Ok(())
-}
-
-#[test]
-fn targets_name_fields_of_the_two_headers(rt: HostRuntime) -> Result<(), Fail> {
-    let rows: [(Target, &[u8]); 4] = [
-        (Target::DestQueue, b"NOQ"),
-        (Target::DestQueueManager, b"PARIS"),
-        (Target::ReplyQueue, b"BACK"),
-        (Target::ReplyQueueManager, b""),
-    ];
-    for (target, name) in rows {
-        let found = target.name(&descriptor(), &header());
-        assert!(rt; found.text() == name);
-    }
-    Ok(())
 }

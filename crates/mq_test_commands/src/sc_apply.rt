@@ -11,7 +11,6 @@ use mq_objects::{
 };
 use mq_sc_apply::{InUse, apply};
 use std::alloc::{AllocError, Global};
-use std::process::Abort;
 use std::test::*;
 
 /// A manager of which each queue is on a path, or has rows.
@@ -77,54 +76,37 @@ fn is_answer(
     defs: &mut Defs,
     busy: &Busy,
     command: &Command,
-    expected: &[u8],
+    wanted: &[u8],
 ) -> bool {
     match apply(alloc, defs, &name_of("LONDON"), command, busy) {
-        Ok(shown) => first_line(&shown) == expected,
-        Err(refusal) => word_of(refusal) == expected,
+        Ok(shown) => first_line(&shown) == wanted,
+        Err(refusal) => word_of(refusal) == wanted,
     }
 }
 
-fn expect(
-    rt: &impl Abort,
-    alloc: Global,
-    defs: &mut Defs,
-    busy: &Busy,
-    command: Result<Command, AllocError>,
-    expected: &str,
-) {
-    let met = match command {
-        Ok(command) => is_answer(alloc, defs, busy, &command, expected.as_bytes()),
-        Err(_) => false,
-    };
-    assert!(rt; met, "{expected}");
-}
-
-fn define(
-    alloc: Global,
-    subject: Subject,
-    replace: bool,
-    setting: Setting,
-) -> Result<Command, AllocError> {
+fn settings_of(alloc: Global, setting: Setting) -> Result<Items<Setting>, AllocError> {
     let mut settings = Items::new(alloc);
     settings.push(setting)?;
+    Ok(settings)
+}
+
+fn q1() -> Subject {
+    Subject::Local(name_of("Q1"))
+}
+
+fn define(alloc: Global, replace: bool, setting: Setting) -> Result<Command, AllocError> {
+    let settings = settings_of(alloc, setting)?;
     Ok(Command::Define(Define {
-        subject,
+        subject: q1(),
         replace,
         settings,
     }))
 }
 
-fn alter(
-    alloc: Global,
-    subject: Subject,
-    force: bool,
-    setting: Setting,
-) -> Result<Command, AllocError> {
-    let mut settings = Items::new(alloc);
-    settings.push(setting)?;
+fn alter(alloc: Global, force: bool, setting: Setting) -> Result<Command, AllocError> {
+    let settings = settings_of(alloc, setting)?;
     Ok(Command::Alter(Alter {
-        subject,
+        subject: q1(),
         force,
         settings,
     }))
@@ -137,12 +119,71 @@ fn display(
     any_end: bool,
     asked: &[Keyword],
 ) -> Result<Command, AllocError> {
+    let name = Items::from_slice(alloc, name.as_bytes())?;
+    let asked = Items::from_slice(alloc, asked)?;
     Ok(Command::Display(Display {
         subjects,
-        name: Items::from_slice(alloc, name.as_bytes())?,
+        name,
         any_end,
-        asked: Items::from_slice(alloc, asked)?,
+        asked,
     }))
+}
+
+/// A command.
+enum Act {
+    /// Q1 is defined with a MAXDEPTH of 10; whether it is replaced.
+    Define(bool),
+    /// PUT(DISABLED) for Q1.
+    Disable,
+    /// USAGE(XMITQ) for Q1, by force or not.
+    Transmit(bool),
+    /// The depth of Q1 and whether it takes messages.
+    Show,
+    /// How many messages the queues have whose names begin with Q.
+    ShowDepths,
+    Delete,
+    /// As an alias.
+    DeleteAlias,
+}
+
+fn command_of(alloc: Global, act: &Act) -> Result<Command, AllocError> {
+    match *act {
+        Act::Define(replace) => define(alloc, replace, Setting::MaxDepth(10)),
+        Act::Disable => alter(alloc, false, Setting::PutEnabled(false)),
+        Act::Transmit(force) => alter(alloc, force, Setting::Usage(Usage::Transmission)),
+        Act::Show => {
+            let asked = [Keyword::Put, Keyword::MaxDepth];
+            display(alloc, Subjects::Locals, "Q1", false, &asked)
+        }
+        Act::ShowDepths => display(alloc, Subjects::Queues, "Q", true, &[Keyword::CurDepth]),
+        Act::Delete => Ok(Command::Delete(Delete { subject: q1() })),
+        Act::DeleteAlias => Ok(Command::Delete(Delete {
+            subject: Subject::Alias(name_of("Q1")),
+        })),
+    }
+}
+
+/// Whether a command has this answer.
+fn meets(alloc: Global, defs: &mut Defs, busy: &Busy, act: &Act, wanted: &[u8]) -> bool {
+    match command_of(alloc, act) {
+        Ok(command) => is_answer(alloc, defs, busy, &command, wanted),
+        Err(_) => false,
+    }
+}
+
+/// A command, and the first line or the refusal that it has as an answer.
+type Step = (Act, &'static str);
+
+/// The first step, from 0, that has another answer, where nothing was defined before.
+fn first_wrong(alloc: Global, busy: &Busy, steps: &[Step]) -> Option<usize> {
+    let mut defs = Defs::new(alloc);
+    let mut wrong = None;
+    for (place, (act, wanted)) in steps.iter().enumerate() {
+        if wrong.is_none() && !meets(alloc, &mut defs, busy, act, wanted.as_bytes()) {
+            wrong = Some(place);
+        }
+    }
+    wrong
 }
 
 const IDLE: Busy = Busy {
@@ -155,66 +196,38 @@ const BUSY: Busy = Busy {
     rows: true,
 };
 
-fn new_queue(alloc: Global, replace: bool) -> Result<Command, AllocError> {
-    let q1 = Subject::Local(name_of("Q1"));
-    define(alloc, q1, replace, Setting::MaxDepth(10))
-}
-
-fn altered(alloc: Global, force: bool, setting: Setting) -> Result<Command, AllocError> {
-    alter(alloc, Subject::Local(name_of("Q1")), force, setting)
-}
+const ALTERED: [Step; 4] = [
+    (Act::Define(false), "OK"),
+    (Act::Define(false), "Exists"),
+    (Act::Disable, "OK"),
+    (Act::Show, "QLOCAL(Q1) MAXDEPTH(10) PUT(DISABLED)"),
+];
 
 #[test]
 fn a_queue_is_defined_and_altered(rt: HostRuntime) {
-    let alloc = rt.alloc();
-    let mut defs = Defs::new(alloc);
-    expect(&rt, alloc, &mut defs, &IDLE, new_queue(alloc, false), "OK");
-    expect(
-        &rt,
-        alloc,
-        &mut defs,
-        &IDLE,
-        new_queue(alloc, false),
-        "Exists",
-    );
-    let command = altered(alloc, false, Setting::PutEnabled(false));
-    expect(&rt, alloc, &mut defs, &IDLE, command, "OK");
-    let asked = [Keyword::Put, Keyword::MaxDepth];
-    let command = display(alloc, Subjects::Locals, "Q1", false, &asked);
-    let line = "QLOCAL(Q1) MAXDEPTH(10) PUT(DISABLED)";
-    expect(&rt, alloc, &mut defs, &IDLE, command, line);
+    assert_eq!(rt; first_wrong(rt.alloc(), &IDLE, &ALTERED), None);
 }
+
+const SHOWN: [Step; 3] = [
+    (Act::Define(false), "OK"),
+    (Act::ShowDepths, "QLOCAL(Q1) CURDEPTH(7)"),
+    (Act::DeleteAlias, "Missing"),
+];
 
 #[test]
 fn what_there_is_is_shown(rt: HostRuntime) {
-    let alloc = rt.alloc();
-    let mut defs = Defs::new(alloc);
-    expect(&rt, alloc, &mut defs, &IDLE, new_queue(alloc, false), "OK");
-    let command = display(alloc, Subjects::Queues, "Q", true, &[Keyword::CurDepth]);
-    expect(
-        &rt,
-        alloc,
-        &mut defs,
-        &IDLE,
-        command,
-        "QLOCAL(Q1) CURDEPTH(7)",
-    );
-    let subject = Subject::Alias(name_of("Q1"));
-    let command = Ok(Command::Delete(Delete { subject }));
-    expect(&rt, alloc, &mut defs, &IDLE, command, "Missing");
+    assert_eq!(rt; first_wrong(rt.alloc(), &IDLE, &SHOWN), None);
 }
+
+const IN_USE: [Step; 5] = [
+    (Act::Define(false), "OK"),
+    (Act::Transmit(false), "InUse"),
+    (Act::Transmit(true), "NotEmpty"),
+    (Act::Define(true), "OK"),
+    (Act::Delete, "InUse"),
+];
 
 #[test]
 fn what_is_in_use_stays(rt: HostRuntime) {
-    let alloc = rt.alloc();
-    let mut defs = Defs::new(alloc);
-    expect(&rt, alloc, &mut defs, &BUSY, new_queue(alloc, false), "OK");
-    let command = altered(alloc, false, Setting::Usage(Usage::Transmission));
-    expect(&rt, alloc, &mut defs, &BUSY, command, "InUse");
-    let command = altered(alloc, true, Setting::Usage(Usage::Transmission));
-    expect(&rt, alloc, &mut defs, &BUSY, command, "NotEmpty");
-    expect(&rt, alloc, &mut defs, &BUSY, new_queue(alloc, true), "OK");
-    let subject = Subject::Local(name_of("Q1"));
-    let command = Ok(Command::Delete(Delete { subject }));
-    expect(&rt, alloc, &mut defs, &BUSY, command, "InUse");
+    assert_eq!(rt; first_wrong(rt.alloc(), &BUSY, &IN_USE), None);
 }
