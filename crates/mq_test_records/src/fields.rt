@@ -1,6 +1,6 @@
 //! The fields of records, read from their places.
 
-use crate::samples::each_kind;
+use crate::samples::bytes_of_kind;
 use mq_calls::LogRecord;
 use mq_record::{Operation, WrittenRecord, read_record};
 use mq_sync::End;
@@ -9,9 +9,8 @@ use std::test::*;
 
 /// The record of the kind with that number, from 1.
 fn record_of(alloc: Global, kind: usize) -> Result<WrittenRecord, Fail> {
-    let samples = each_kind(alloc)?;
-    let sample = samples.get(kind - kind.min(1)).ok_or("no such kind")?;
-    match read_record(alloc, sample.bytes.as_slice()) {
+    let bytes = bytes_of_kind(alloc, kind).ok_or("no such kind")?;
+    match read_record(alloc, bytes.as_slice()) {
         Ok(record) => Ok(record),
         Err(_) => Err("no record")?,
     }

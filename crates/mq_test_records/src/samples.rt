@@ -1,7 +1,6 @@
 //! Bodies of the log as the format's table lays them out, with the places at which no other byte may stand.
 
 use std::alloc::{AllocError, Global};
-use std::test::Fail;
 
 /// A body, and for each of its bytes whether another one there makes it no record.
 #[derive(Drop)]
@@ -10,190 +9,266 @@ pub struct Sample {
     pub strict: Vec<bool>,
 }
 
-impl Sample {
-    fn of_kind(alloc: Global, kind: u8) -> Result<Sample, AllocError> {
-        let mut sample = Sample {
-            bytes: Vec::new(alloc),
-            strict: Vec::new(alloc),
-        };
-        sample.strict(&[kind])?;
-        Ok(sample)
-    }
-
-    fn put(&mut self, bytes: &[u8], strict: bool) -> Result<(), AllocError> {
-        for byte in bytes {
-            self.bytes.push(*byte)?;
-            self.strict.push(strict)?;
-        }
-        Ok(())
-    }
-
+/// A piece of a body.
+enum Piece {
     /// Bytes that can't be others.
-    fn strict(&mut self, bytes: &[u8]) -> Result<(), AllocError> {
-        self.put(bytes, true)
-    }
-
+    Strict(&'static [u8]),
     /// Bytes that may be any.
-    fn free(&mut self, bytes: &[u8]) -> Result<(), AllocError> {
-        self.put(bytes, false)
+    Free(&'static [u8]),
+    /// A text with blanks behind, up to that width.
+    Name(&'static [u8], usize),
+    /// A byte so often, which may be any.
+    Filled(u8, usize),
+}
+
+/// Pieces that stand together.
+enum Part {
+    One(Piece),
+    /// Manager 1, incarnation 2, number 3.
+    Ident,
+    /// Session 5, n 6.
+    Unit,
+    /// A persistent message with the body `hello`, and no route.
+    Message,
+    /// The same with a route.
+    Routed,
+}
+
+const IDENT: Piece = Piece::Free(b"\x01\0\0\0\0\0\0\0\x02\0\0\0\0\0\0\0\x03");
+
+const UNIT: Piece = Piece::Free(b"\0\0\0\0\0\0\0\x05\0\0\0\0\0\0\0\x06");
+
+const MESSAGE: [Piece; 9] = [
+    IDENT,
+    Piece::Strict(b"MD  \0\0\0\x01"),
+    Piece::Filled(0, 36),
+    Piece::Strict(&[0, 0, 0, 1]),
+    Piece::Filled(b'x', 276),
+    Piece::Filled(0xff, 8),
+    Piece::Strict(&[0]),
+    Piece::Strict(&[0, 0, 0, 5]),
+    Piece::Free(b"hello"),
+];
+
+const ROUTED: [Piece; 11] = [
+    IDENT,
+    Piece::Strict(b"MD  \0\0\0\x01"),
+    Piece::Filled(0, 36),
+    Piece::Strict(&[0, 0, 0, 1]),
+    Piece::Filled(b'x', 276),
+    Piece::Filled(0xff, 8),
+    Piece::Strict(&[1]),
+    Piece::Name(b"T", 48),
+    Piece::Name(b"M3", 48),
+    Piece::Strict(&[0, 0, 0, 5]),
+    Piece::Free(b"hello"),
+];
+
+/// A body of each kind, in the order of their numbers.
+const KINDS: [&[Part]; 11] = [
+    // Started
+    &[
+        Part::One(Piece::Strict(&[1])),
+        Part::One(Piece::Free(&[1])),
+        Part::One(Piece::Name(b"M1", 48)),
+        Part::One(Piece::Free(b"\0\0\0\0\0\0\0\x04")),
+    ],
+    // Objects
+    &[
+        Part::One(Piece::Strict(&[2, 2, 0, 0, 0, 20])),
+        Part::One(Piece::Free(b"DELETE QLOCAL('Q12')")),
+    ],
+    // Unit: one add with a route and one without, and one remove
+    &[
+        Part::One(Piece::Strict(&[3, 0, 0, 0, 2, 0, 0, 0, 1])),
+        Part::One(Piece::Name(b"M2", 48)),
+        Part::Routed,
+        Part::One(Piece::Name(b"Q1", 48)),
+        Part::Message,
+        Part::One(Piece::Name(b"Q1", 48)),
+        Part::Ident,
+    ],
+    // Session
+    &[
+        Part::One(Piece::Strict(&[4])),
+        Part::One(Piece::Name(b"M1.M2", 20)),
+        Part::One(Piece::Name(b"M2", 48)),
+        Part::One(Piece::Free(b"\0\0\0\0\0\0\0\x05")),
+    ],
+    // Prepared
+    &[
+        Part::One(Piece::Strict(&[5])),
+        Part::One(Piece::Name(b"M1.M2", 20)),
+        Part::Unit,
+        Part::One(Piece::Free(&[0, 0, 0, 7])),
+        Part::One(Piece::Name(b"M2", 48)),
+        Part::One(Piece::Strict(&[0, 0, 0, 2])),
+        Part::Ident,
+        Part::Ident,
+    ],
+    // Resolved
+    &[
+        Part::One(Piece::Strict(&[6])),
+        Part::One(Piece::Name(b"M1.M2", 20)),
+        Part::Unit,
+        Part::One(Piece::Strict(&[1, 0])),
+    ],
+    // Bound
+    &[
+        Part::One(Piece::Strict(&[7])),
+        Part::One(Piece::Name(b"M1.M2", 20)),
+        Part::One(Piece::Name(b"M1", 48)),
+        Part::One(Piece::Free(b"\0\0\0\0\0\0\0\x05\0\0\0\x07")),
+    ],
+    // Closed
+    &[
+        Part::One(Piece::Strict(&[8])),
+        Part::One(Piece::Name(b"M1.M2", 20)),
+        Part::One(Piece::Free(b"\0\0\0\0\0\0\0\x05")),
+    ],
+    // Received
+    &[
+        Part::One(Piece::Strict(&[9])),
+        Part::One(Piece::Name(b"M1.M2", 20)),
+        Part::Unit,
+        Part::One(Piece::Free(&[0, 0, 0, 7])),
+        Part::One(Piece::Strict(&[0, 0, 0, 1])),
+        Part::One(Piece::Name(b"Q1", 48)),
+        Part::Message,
+    ],
+    // SeqSet
+    &[
+        Part::One(Piece::Strict(&[10])),
+        Part::One(Piece::Name(b"M1.M2", 20)),
+        Part::One(Piece::Strict(&[2])),
+        Part::One(Piece::Free(&[0, 0, 0, 7])),
+    ],
+    // Moved
+    &[
+        Part::One(Piece::Strict(&[11])),
+        Part::One(Piece::Name(b"DLQ", 48)),
+        Part::Ident,
+        Part::One(Piece::Name(b"Q1", 48)),
+        Part::Message,
+    ],
+];
+
+impl Sample {
+    fn put_byte(&mut self, byte: u8, strict: bool) -> Result<(), AllocError> {
+        self.bytes.push(byte)?;
+        self.strict.push(strict)?;
+        Ok(())
     }
 
-    fn name(&mut self, text: &[u8], width: usize) -> Result<(), AllocError> {
-        self.strict(text)?;
-        for _ in text.len()..width {
-            self.strict(b" ")?;
+    fn put_bytes(&mut self, bytes: &[u8], strict: bool) -> Result<(), AllocError> {
+        for byte in bytes {
+            self.put_byte(*byte, strict)?;
         }
         Ok(())
     }
 
-    /// Manager 1, incarnation 2, number 3.
-    fn ident(&mut self) -> Result<(), AllocError> {
-        self.free(&[1])?;
-        self.free(&2u64.to_be_bytes())?;
-        self.free(&3u64.to_be_bytes())
-    }
-
-    /// Session 5, n 6.
-    fn unit(&mut self) -> Result<(), AllocError> {
-        self.free(&5u64.to_be_bytes())?;
-        self.free(&6u64.to_be_bytes())
-    }
-
-    /// A persistent message with the body `hello`, with a route or not.
-    fn message(&mut self, routed: bool) -> Result<(), AllocError> {
-        self.ident()?;
-        self.strict(b"MD  \0\0\0\x01")?;
-        self.free(&[0; 36])?;
-        self.strict(&[0, 0, 0, 1])?;
-        self.free(&[b'x'; 276])?;
-        self.free(&[0xff; 8])?;
-        if routed {
-            self.strict(&[1])?;
-            self.name(b"T", 48)?;
-            self.name(b"M3", 48)?;
-        } else {
-            self.strict(&[0])?;
+    fn fill(&mut self, byte: u8, count: usize, strict: bool) -> Result<(), AllocError> {
+        for _ in 0..count {
+            self.put_byte(byte, strict)?;
         }
-        self.strict(&[0, 0, 0, 5])?;
-        self.free(b"hello")
+        Ok(())
+    }
+
+    fn put(&mut self, piece: &Piece) -> Result<(), AllocError> {
+        match piece {
+            Piece::Strict(bytes) => self.put_bytes(bytes, true),
+            Piece::Free(bytes) => self.put_bytes(bytes, false),
+            Piece::Name(text, width) => {
+                self.put_bytes(text, true)?;
+                self.fill(b' ', width.saturating_sub(text.len()), true)
+            }
+            Piece::Filled(byte, count) => self.fill(*byte, *count, false),
+        }
+    }
+
+    fn put_all(&mut self, pieces: &[Piece]) -> Result<(), AllocError> {
+        for piece in pieces {
+            self.put(piece)?;
+        }
+        Ok(())
+    }
+
+    fn put_part(&mut self, part: &Part) -> Result<(), AllocError> {
+        match part {
+            Part::One(piece) => self.put(piece),
+            Part::Ident => self.put(&IDENT),
+            Part::Unit => self.put(&UNIT),
+            Part::Message => self.put_all(&MESSAGE),
+            Part::Routed => self.put_all(&ROUTED),
+        }
+    }
+
+    /// The body with another byte at that place; none where it has no such place, or memory lacks.
+    pub fn spoiled(&self, place: usize) -> Option<Vec<u8>> {
+        match self.bytes.clone() {
+            Ok(mut spoiled) => {
+                if spoil(&mut spoiled, place) {
+                    Some(spoiled)
+                } else {
+                    None
+                }
+            }
+            Err(_) => None,
+        }
     }
 }
 
-fn started(alloc: Global) -> Result<Sample, AllocError> {
-    let mut sample = Sample::of_kind(alloc, 1)?;
-    sample.free(&[1])?;
-    sample.name(b"M1", 48)?;
-    sample.free(&4u64.to_be_bytes())?;
-    Ok(sample)
+fn spoil(bytes: &mut [u8], place: usize) -> bool {
+    match bytes.get_mut(place) {
+        Some(byte) => {
+            *byte ^= 0x80;
+            true
+        }
+        None => false,
+    }
 }
 
-fn objects(alloc: Global) -> Result<Sample, AllocError> {
-    let mut sample = Sample::of_kind(alloc, 2)?;
-    sample.strict(&[2])?;
-    sample.strict(&20u32.to_be_bytes())?;
-    sample.free(b"DELETE QLOCAL('Q12')")?;
-    Ok(sample)
+fn put_parts(sample: &mut Sample, parts: &[Part]) -> Result<(), AllocError> {
+    for part in parts {
+        sample.put_part(part)?;
+    }
+    Ok(())
 }
 
-/// One add with a route and one without, and one remove.
-fn unit(alloc: Global) -> Result<Sample, AllocError> {
-    let mut sample = Sample::of_kind(alloc, 3)?;
-    sample.strict(&2u32.to_be_bytes())?;
-    sample.strict(&1u32.to_be_bytes())?;
-    sample.name(b"M2", 48)?;
-    sample.message(true)?;
-    sample.name(b"Q1", 48)?;
-    sample.message(false)?;
-    sample.name(b"Q1", 48)?;
-    sample.ident()?;
-    Ok(sample)
+fn sample_of(alloc: Global, parts: &[Part]) -> Result<Sample, AllocError> {
+    let mut sample = Sample {
+        bytes: Vec::new(alloc),
+        strict: Vec::new(alloc),
+    };
+    match put_parts(&mut sample, parts) {
+        Ok(()) => Ok(sample),
+        Err(AllocError) => Err(AllocError),
+    }
 }
 
-fn session(alloc: Global) -> Result<Sample, AllocError> {
-    let mut sample = Sample::of_kind(alloc, 4)?;
-    sample.name(b"M1.M2", 20)?;
-    sample.name(b"M2", 48)?;
-    sample.free(&5u64.to_be_bytes())?;
-    Ok(sample)
-}
-
-fn prepared(alloc: Global) -> Result<Sample, AllocError> {
-    let mut sample = Sample::of_kind(alloc, 5)?;
-    sample.name(b"M1.M2", 20)?;
-    sample.unit()?;
-    sample.free(&7u32.to_be_bytes())?;
-    sample.name(b"M2", 48)?;
-    sample.strict(&2u32.to_be_bytes())?;
-    sample.ident()?;
-    sample.ident()?;
-    Ok(sample)
-}
-
-fn resolved(alloc: Global) -> Result<Sample, AllocError> {
-    let mut sample = Sample::of_kind(alloc, 6)?;
-    sample.name(b"M1.M2", 20)?;
-    sample.unit()?;
-    sample.strict(&[1, 0])?;
-    Ok(sample)
-}
-
-fn bound(alloc: Global) -> Result<Sample, AllocError> {
-    let mut sample = Sample::of_kind(alloc, 7)?;
-    sample.name(b"M1.M2", 20)?;
-    sample.name(b"M1", 48)?;
-    sample.free(&5u64.to_be_bytes())?;
-    sample.free(&7u32.to_be_bytes())?;
-    Ok(sample)
-}
-
-fn closed(alloc: Global) -> Result<Sample, AllocError> {
-    let mut sample = Sample::of_kind(alloc, 8)?;
-    sample.name(b"M1.M2", 20)?;
-    sample.free(&5u64.to_be_bytes())?;
-    Ok(sample)
-}
-
-fn received(alloc: Global) -> Result<Sample, AllocError> {
-    let mut sample = Sample::of_kind(alloc, 9)?;
-    sample.name(b"M1.M2", 20)?;
-    sample.unit()?;
-    sample.free(&7u32.to_be_bytes())?;
-    sample.strict(&1u32.to_be_bytes())?;
-    sample.name(b"Q1", 48)?;
-    sample.message(false)?;
-    Ok(sample)
-}
-
-fn seq_set(alloc: Global) -> Result<Sample, AllocError> {
-    let mut sample = Sample::of_kind(alloc, 10)?;
-    sample.name(b"M1.M2", 20)?;
-    sample.strict(&[2])?;
-    sample.free(&7u32.to_be_bytes())?;
-    Ok(sample)
-}
-
-fn moved(alloc: Global) -> Result<Sample, AllocError> {
-    let mut sample = Sample::of_kind(alloc, 11)?;
-    sample.name(b"DLQ", 48)?;
-    sample.ident()?;
-    sample.name(b"Q1", 48)?;
-    sample.message(false)?;
-    Ok(sample)
+fn push_samples(alloc: Global, samples: &mut Vec<Sample>) -> Result<(), AllocError> {
+    for parts in &KINDS {
+        samples.push(sample_of(alloc, parts)?)?;
+    }
+    Ok(())
 }
 
 /// A body of each kind, in the order of their numbers.
-pub fn each_kind(alloc: Global) -> Result<Vec<Sample>, Fail> {
+pub fn each_kind(alloc: Global) -> Result<Vec<Sample>, AllocError> {
     let mut samples = Vec::new(alloc);
-    samples.push(started(alloc)?)?;
-    samples.push(objects(alloc)?)?;
-    samples.push(unit(alloc)?)?;
-    samples.push(session(alloc)?)?;
-    samples.push(prepared(alloc)?)?;
-    samples.push(resolved(alloc)?)?;
-    samples.push(bound(alloc)?)?;
-    samples.push(closed(alloc)?)?;
-    samples.push(received(alloc)?)?;
-    samples.push(seq_set(alloc)?)?;
-    samples.push(moved(alloc)?)?;
-    Ok(samples)
+    match push_samples(alloc, &mut samples) {
+        Ok(()) => Ok(samples),
+        Err(AllocError) => Err(AllocError),
+    }
+}
+
+/// The bytes of the body of the kind with that number, from 1; none where there is no such kind, or memory lacks.
+pub fn bytes_of_kind(alloc: Global, kind: usize) -> Option<Vec<u8>> {
+    match KINDS.get(kind - kind.min(1)) {
+        Some(parts) => match sample_of(alloc, parts) {
+            Ok(sample) => Some(sample.bytes),
+            Err(AllocError) => None,
+        },
+        None => None,
+    }
 }

@@ -1,6 +1,6 @@
 //! What is written, against the format's table.
 
-use crate::samples::each_kind;
+use crate::samples::bytes_of_kind;
 use mq_base::{ChName, QName};
 use mq_message::Ident;
 use mq_record::{
@@ -19,71 +19,117 @@ const IDENT: Ident = Ident {
 
 const UNIT: Unit = Unit { session: 5, n: 6 };
 
-/// The bytes of the kind with that number, from 1.
-fn sample(alloc: Global, kind: usize) -> Result<Vec<u8>, Fail> {
-    let samples = each_kind(alloc)?;
-    let sample = samples.get(kind - kind.min(1)).ok_or("no such kind")?;
-    Ok(sample.bytes.clone()?)
+/// Whether these are the bytes of the kind with that number, from 1.
+fn are(alloc: Global, kind: usize, bytes: &[u8]) -> bool {
+    match bytes_of_kind(alloc, kind) {
+        Some(body) => body.as_slice() == bytes,
+        None => false,
+    }
+}
+
+/// Whether they stand at its beginning.
+fn begin(alloc: Global, kind: usize, bytes: &[u8]) -> bool {
+    match bytes_of_kind(alloc, kind) {
+        Some(body) => body.starts_with(bytes),
+        None => false,
+    }
+}
+
+/// Whether a record without lists, of the kind with that number, is written as the table says.
+fn is_written(alloc: Global, kind: usize) -> Result<bool, Fail> {
+    let channel = ChName::of(b"M1.M2")?;
+    let (m1, m2) = (QName::of(b"M1")?, QName::of(b"M2")?);
+    Ok(match kind {
+        1 => are(alloc, 1, started_bytes(1, &m1, 4).as_slice()),
+        4 => are(alloc, 4, session_bytes(&channel, &m2, 5).as_slice()),
+        6 => are(
+            alloc,
+            6,
+            resolved_bytes(&channel, UNIT, true, false).as_slice(),
+        ),
+        7 => are(alloc, 7, bound_bytes(&channel, &m1, 5, 7).as_slice()),
+        8 => are(alloc, 8, closed_bytes(&channel, 5).as_slice()),
+        10 => are(
+            alloc,
+            10,
+            seq_set_bytes(&channel, End::Receiver, 7).as_slice(),
+        ),
+        _ => false,
+    })
 }
 
 #[test]
 fn records_without_lists_are_written_as_the_table_says(rt: HostRuntime) -> Result<(), Fail> {
-    let channel = ChName::of(b"M1.M2")?;
-    let (m1, m2) = (QName::of(b"M1")?, QName::of(b"M2")?);
-    assert!(rt; started_bytes(1, &m1, 4).as_slice() == sample(rt.alloc(), 1)?.as_slice());
-    assert!(rt; session_bytes(&channel, &m2, 5).as_slice() == sample(rt.alloc(), 4)?.as_slice());
-    assert!(rt;
-        resolved_bytes(&channel, UNIT, true, false).as_slice() == sample(rt.alloc(), 6)?.as_slice()
-    );
-    assert!(rt; bound_bytes(&channel, &m1, 5, 7).as_slice() == sample(rt.alloc(), 7)?.as_slice());
-    assert!(rt; closed_bytes(&channel, 5).as_slice() == sample(rt.alloc(), 8)?.as_slice());
-    assert!(rt;
-        seq_set_bytes(&channel, End::Receiver, 7).as_slice() == sample(rt.alloc(), 10)?.as_slice()
-    );
+    for kind in [1, 4, 6, 7, 8, 10] {
+        assert!(rt; is_written(rt.alloc(), kind)?, "kind {kind}");
+    }
     Ok(())
+}
+
+/// Whether the front of a record with lists, of the kind with that number, begins it.
+fn is_begun(alloc: Global, kind: usize) -> Result<bool, Fail> {
+    let channel = ChName::of(b"M1.M2")?;
+    let (dlq, q1, m2) = (QName::of(b"DLQ")?, QName::of(b"Q1")?, QName::of(b"M2")?);
+    Ok(match kind {
+        2 => begin(alloc, 2, objects_front(Operation::Delete, 20).as_slice()),
+        5 => begin(
+            alloc,
+            5,
+            prepared_front(&channel, UNIT, 7, &m2, 2).as_slice(),
+        ),
+        9 => begin(alloc, 9, received_front(&channel, UNIT, 7, 1).as_slice()),
+        11 => begin(alloc, 11, moved_front(&dlq, &IDENT, &q1).as_slice()),
+        _ => false,
+    })
 }
 
 #[test]
 fn fronts_stand_at_the_beginning_of_their_records(rt: HostRuntime) -> Result<(), Fail> {
-    let channel = ChName::of(b"M1.M2")?;
-    let m2 = QName::of(b"M2")?;
-    let (dlq, q1) = (QName::of(b"DLQ")?, QName::of(b"Q1")?);
-    assert!(rt; sample(rt.alloc(), 2)?.starts_with(&objects_front(Operation::Delete, 20)));
-    assert!(rt; sample(rt.alloc(), 5)?.starts_with(&prepared_front(&channel, UNIT, 7, &m2, 2)));
-    assert!(rt; sample(rt.alloc(), 9)?.starts_with(&received_front(&channel, UNIT, 7, 1)));
-    assert!(rt; sample(rt.alloc(), 11)?.starts_with(&moved_front(&dlq, &IDENT, &q1)));
+    for kind in [2, 5, 9, 11] {
+        assert!(rt; is_begun(rt.alloc(), kind)?, "kind {kind}");
+    }
     Ok(())
 }
 
-fn put(buffer: &mut Buffer, piece: &[u8]) -> Result<(), Fail> {
-    if buffer.reserve(piece.len()).is_err() {
-        return Err("no memory")?;
+fn put(buffer: &mut Buffer, piece: &[u8]) -> bool {
+    match buffer.reserve(piece.len()) {
+        Ok(()) => {
+            buffer.put(piece);
+            true
+        }
+        Err(_) => false,
     }
-    buffer.put(piece);
-    Ok(())
 }
 
-fn put_remove(buffer: &mut Buffer, queue: &QName) -> Result<(), Fail> {
-    if buffer.reserve(65).is_err() {
-        return Err("no memory")?;
+fn put_remove(buffer: &mut Buffer, queue: &QName) -> bool {
+    match buffer.reserve(65) {
+        Ok(()) => {
+            buffer.put_remove(queue, &IDENT);
+            true
+        }
+        Err(_) => false,
     }
-    buffer.put_remove(queue, &IDENT);
-    Ok(())
 }
+
+/// Whether a unit's front and two removes of a queue's message leave these bytes.
+fn is_grown(alloc: Global, queue: &QName, wanted: &[u8]) -> bool {
+    let mut grown = Buffer::new(alloc);
+    put(&mut grown, &unit_front(0, 2))
+        && put_remove(&mut grown, queue)
+        && put_remove(&mut grown, queue)
+        && grown.as_slice() == wanted
+}
+
+/// A remove of Q1's message 1.2.3.
+const REMOVE: &[u8] =
+    b"Q1                                              \x01\0\0\0\0\0\0\0\x02\0\0\0\0\0\0\0\x03";
 
 #[test]
 fn a_unit_grows_in_room_that_was_taken_before(rt: HostRuntime) -> Result<(), Fail> {
     let q1 = QName::of(b"Q1")?;
-    let mut grown = Buffer::new(rt.alloc());
-    put(&mut grown, &unit_front(0, 2))?;
-    put_remove(&mut grown, &q1)?;
-    put_remove(&mut grown, &q1)?;
     let mut wanted = vec![in rt.alloc(); 3, 0, 0, 0, 0, 0, 0, 0, 2]?;
-    for _ in 0..2 {
-        wanted.extend_from_slice(b"Q1")?;
-        wanted.extend_from_slice(&[b' '; 46])?;
-        wanted.extend_from_slice(&[1, 0, 0, 0, 0, 0, 0, 0, 2, 0, 0, 0, 0, 0, 0, 0, 3])?;
-    }
-    assert!(rt; grown.as_slice() == wanted.as_slice());
+    wanted.extend_from_slice(REMOVE)?;
+    wanted.extend_from_slice(REMOVE)?;
+    assert!(rt; is_grown(rt.alloc(), &q1, wanted.as_slice()));
     Ok(())
 }

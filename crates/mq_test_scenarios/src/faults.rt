@@ -184,122 +184,136 @@ const BODIES: [(&str, &str); 4] = [
     ),
 ];
 
-/// What the reader says of a text.
-fn told(alloc: Global, text: &[u8]) -> Result<String, AllocError> {
+/// Writes what the reader says of a text.
+fn tell(alloc: Global, told: &mut String, text: &[u8]) -> Result<(), AllocError> {
     match read_scenario(alloc, text) {
-        Ok(_) => String::from_str(alloc, "read"),
-        Err(fault) => format!(in alloc; "{fault}"),
+        Ok(_) => told.push_str("read"),
+        Err(fault) => write!(told, "{fault}"),
     }
 }
 
-/// The first row of which something else is told.
-fn first_wrong<'a>(
-    alloc: Global,
-    rows: &[(&'a str, &'a str)],
-) -> Result<Option<&'a str>, AllocError> {
-    for (inner, want) in rows {
-        let mut text = String::from_str(alloc, HEAD)?;
-        text.push_str(inner)?;
-        if told(alloc, text.as_bytes())?.as_str() != *want {
-            return Ok(Some(inner));
+/// Whether the reader says this of a text.
+fn is_told(alloc: Global, text: &[u8], wanted: &str) -> bool {
+    let mut told = String::new(alloc);
+    tell(alloc, &mut told, text).is_ok() && told.as_str() == wanted
+}
+
+/// Whether the reader says this of what stands behind two managers.
+fn is_row(alloc: Global, inner: &str, wanted: &str) -> bool {
+    let mut text = String::new(alloc);
+    text.push_str(HEAD).is_ok()
+        && text.push_str(inner).is_ok()
+        && is_told(alloc, text.as_bytes(), wanted)
+}
+
+/// The first row, from 0, of which something else is told.
+fn first_wrong(alloc: Global, rows: &[(&str, &str)]) -> Option<usize> {
+    for (row, (inner, wanted)) in rows.iter().enumerate() {
+        if !is_row(alloc, inner, wanted) {
+            return Some(row);
         }
     }
-    Ok(None)
+    None
 }
 
 #[test]
-fn a_fault_of_the_heading_is_told_with_its_line(rt: HostRuntime) -> Result<(), Fail> {
-    assert_eq!(rt; first_wrong(rt.alloc(), HEADINGS.as_slice())?, None);
-    Ok(())
+fn a_fault_of_the_heading_is_told_with_its_line(rt: HostRuntime) {
+    assert_eq!(rt; first_wrong(rt.alloc(), &HEADINGS), None);
 }
 
 #[test]
-fn a_fault_within_a_section_has_the_line_of_the_whole_text(rt: HostRuntime) -> Result<(), Fail> {
-    assert_eq!(rt; first_wrong(rt.alloc(), SECTIONS.as_slice())?, None);
-    Ok(())
+fn a_fault_within_a_section_has_the_line_of_the_whole_text(rt: HostRuntime) {
+    assert_eq!(rt; first_wrong(rt.alloc(), &SECTIONS), None);
 }
 
 #[test]
-fn a_fault_of_a_step_is_told_with_its_line(rt: HostRuntime) -> Result<(), Fail> {
-    assert_eq!(rt; first_wrong(rt.alloc(), STEPS.as_slice())?, None);
-    Ok(())
+fn a_fault_of_a_step_is_told_with_its_line(rt: HostRuntime) {
+    assert_eq!(rt; first_wrong(rt.alloc(), &STEPS), None);
 }
 
 #[test]
-fn a_text_without_lines_ends_too_early(rt: HostRuntime) -> Result<(), Fail> {
-    assert_eq!(rt; told(rt.alloc(), b"")?.as_str(), "line 1: Ending");
-    Ok(())
+fn a_text_without_lines_ends_too_early(rt: HostRuntime) {
+    assert!(rt; is_told(rt.alloc(), b"", "line 1: Ending"));
 }
 
-#[test]
-fn a_line_behind_forty_thousand_is_too_many(rt: HostRuntime) -> Result<(), Fail> {
-    let mut text = Vec::new(rt.alloc());
-    for _ in 0..40_001 {
+/// Writes so many lines without a word.
+fn write_lines(text: &mut Vec<u8>, count: u32) -> Result<(), AllocError> {
+    for _ in 0..count {
         text.push(b'\n')?;
     }
-    assert_eq!(rt;
-        told(rt.alloc(), text.as_slice())?.as_str(),
-        "line 40001: Limit Lines"
-    );
     Ok(())
 }
 
-/// A text with so many of the parts.
-fn with_parts(alloc: Global, row: &Counted, count: u32) -> Result<String, AllocError> {
-    let mut text = String::from_str(alloc, HEAD)?;
+/// Whether the reader says this of so many lines without a word.
+fn is_told_of_lines(alloc: Global, count: u32, wanted: &str) -> bool {
+    let mut text = Vec::new(alloc);
+    write_lines(&mut text, count).is_ok() && is_told(alloc, text.as_slice(), wanted)
+}
+
+#[test]
+fn a_line_behind_forty_thousand_is_too_many(rt: HostRuntime) {
+    assert!(rt; is_told_of_lines(rt.alloc(), 40_001, "line 40001: Limit Lines"));
+}
+
+/// Writes a text with so many of the parts.
+fn write_parts(text: &mut String, row: &Counted, count: u32) -> Result<(), AllocError> {
+    text.push_str(HEAD)?;
     text.push_str(row.front)?;
     for n in 0..count {
-        let number = format!(in alloc; "{n}")?;
-        text.push_str(row.before)?;
-        text.push_str(number.as_str())?;
-        text.push_str(row.behind)?;
+        write!(text, "{}{n}{}", row.before, row.behind)?;
     }
-    text.push_str(row.back)?;
-    Ok(text)
+    text.push_str(row.back)
 }
 
-/// What the reader says of a text with so many of the parts.
-fn told_of(alloc: Global, row: &Counted, count: u32) -> Result<String, AllocError> {
-    let text = with_parts(alloc, row, count)?;
-    told(alloc, text.as_bytes())
+/// Whether the reader says this of a text with so many of the parts.
+fn is_told_of_parts(alloc: Global, row: &Counted, count: u32, wanted: &str) -> bool {
+    let mut text = String::new(alloc);
+    write_parts(&mut text, row, count).is_ok() && is_told(alloc, text.as_bytes(), wanted)
 }
 
 #[test]
-fn each_part_stands_as_often_as_it_may(rt: HostRuntime) -> Result<(), Fail> {
-    for row in &COUNTED {
-        assert_eq!(rt; told_of(rt.alloc(), row, row.most)?.as_str(), "read");
-    }
-    Ok(())
-}
-
-#[test]
-fn one_part_more_is_too_many(rt: HostRuntime) -> Result<(), Fail> {
-    for row in &COUNTED {
-        assert_eq!(rt;
-            told_of(rt.alloc(), row, row.most.saturating_add(1))?.as_str(),
-            row.want
+fn each_part_stands_as_often_as_it_may(rt: HostRuntime) {
+    for (at, row) in COUNTED.iter().enumerate() {
+        assert!(rt;
+            is_told_of_parts(rt.alloc(), row, row.most, "read"),
+            "row {at}"
         );
     }
-    Ok(())
 }
 
 #[test]
-fn a_number_of_a_line_has_its_limit(rt: HostRuntime) -> Result<(), Fail> {
-    assert_eq!(rt; first_wrong(rt.alloc(), BODIES.as_slice())?, None);
-    Ok(())
+fn one_part_more_is_too_many(rt: HostRuntime) {
+    for (at, row) in COUNTED.iter().enumerate() {
+        let count = row.most.saturating_add(1);
+        assert!(rt;
+            is_told_of_parts(rt.alloc(), row, count, row.want),
+            "row {at}"
+        );
+    }
 }
 
 #[test]
-fn all_bodies_together_have_a_limit(rt: HostRuntime) -> Result<(), Fail> {
-    let mut text = String::from_str(rt.alloc(), HEAD)?;
+fn a_number_of_a_line_has_its_limit(rt: HostRuntime) {
+    assert_eq!(rt; first_wrong(rt.alloc(), &BODIES), None);
+}
+
+/// Writes sixteen bodies of the greatest length, and one byte.
+fn write_bodies(text: &mut String) -> Result<(), AllocError> {
+    text.push_str(HEAD)?;
     text.push_str("SCRIPT A LONDON\n")?;
     for _ in 0..16 {
         text.push_str("MQPUT H FILL(4194304,'A')\n")?;
     }
-    text.push_str("MQPUT H TEXT('')\nMQPUT H FILL(1,'A')\n")?;
-    assert_eq!(rt;
-        told(rt.alloc(), text.as_bytes())?.as_str(),
-        "line 22: Limit Bodies"
-    );
-    Ok(())
+    text.push_str("MQPUT H TEXT('')\nMQPUT H FILL(1,'A')\n")
+}
+
+/// Whether the reader says this of all these bodies.
+fn is_told_of_bodies(alloc: Global, wanted: &str) -> bool {
+    let mut text = String::new(alloc);
+    write_bodies(&mut text).is_ok() && is_told(alloc, text.as_bytes(), wanted)
+}
+
+#[test]
+fn all_bodies_together_have_a_limit(rt: HostRuntime) {
+    assert!(rt; is_told_of_bodies(rt.alloc(), "line 22: Limit Bodies"));
 }

@@ -1,7 +1,8 @@
 //! A text with every part and every kind of step.
 
-use mq_history::{ScriptLine, Step};
+use mq_history::{CableLine, ManagerLine, Scenario, ScriptLine, ScriptPart, Section, Step};
 use mq_scn_text::read_scenario;
+use std::alloc::Global;
 use std::test::*;
 
 const TEXT: &str = "* a comment
@@ -44,88 +45,139 @@ RESTART LONDON
 CLOCK 0
 ENDSTEPS";
 
-#[test]
-fn every_part_of_a_scenario_is_read(rt: HostRuntime) -> Result<(), Fail> {
-    let scenario = read_scenario(rt.alloc(), TEXT.as_bytes())?;
-    assert_eq!(rt; scenario.moment, Some(1_700_000_000_000));
-    let [london, paris] = scenario.managers.as_slice() else {
-        return Err(Fail::new("two managers"));
-    };
-    assert_eq!(rt; london.name.text(), b"LONDON".as_slice());
-    assert_eq!(rt; london.log_max, 1_048_576);
-    assert_eq!(rt; paris.log_max, 268_435_456);
-    let [cable] = scenario.cables.as_slice() else {
-        return Err(Fail::new("one cable"));
-    };
-    assert_eq!(rt; (cable.sender, cable.receiver), (0, 1));
-    assert_eq!(rt; (cable.out.len(), cable.back.len()), (2, 1));
-    let [section] = scenario.sections.as_slice() else {
-        return Err(Fail::new("one section"));
-    };
-    assert_eq!(rt; section.label.text(), b"D1".as_slice());
-    assert_eq!(rt; section.commands.len(), 2);
-    assert_eq!(rt; scenario.rules.len(), 1);
-    assert_eq!(rt; scenario.monitors.len(), 1);
-    Ok(())
+fn are_managers(managers: &[ManagerLine]) -> bool {
+    match managers {
+        [london, paris] => {
+            london.name.text() == b"LONDON".as_slice()
+                && london.log_max == 1_048_576
+                && paris.log_max == 268_435_456
+        }
+        _ => false,
+    }
+}
+
+fn is_cable(cables: &[CableLine]) -> bool {
+    match cables {
+        [cable] => {
+            cable.sender == 0
+                && cable.receiver == 1
+                && cable.out.len() == 2
+                && cable.back.len() == 1
+        }
+        _ => false,
+    }
+}
+
+fn is_section(sections: &[Section]) -> bool {
+    match sections {
+        [section] => section.label.text() == b"D1".as_slice() && section.commands.len() == 2,
+        _ => false,
+    }
+}
+
+/// Whether the moment, the managers, the cable, the section, the rules and the monitors are those of the text.
+fn is_headed(scenario: &Scenario) -> bool {
+    scenario.moment == Some(1_700_000_000_000)
+        && are_managers(scenario.managers.as_slice())
+        && is_cable(scenario.cables.as_slice())
+        && is_section(scenario.sections.as_slice())
+        && scenario.rules.len() == 1
+        && scenario.monitors.len() == 1
+}
+
+fn are_lines(lines: &[ScriptLine]) -> bool {
+    matches!(
+        lines,
+        [
+            ScriptLine::Mqconn(_),
+            ScriptLine::Mqput1 { .. },
+            ScriptLine::Mqdisc
+        ]
+    )
+}
+
+/// Whether the first of two scripts has these lines, and the second none.
+fn are_scripts(scripts: &[ScriptPart]) -> bool {
+    match scripts {
+        [a, b] => b.lines.is_empty() && are_lines(a.lines.as_slice()),
+        _ => false,
+    }
+}
+
+fn are_turns(steps: &[Step]) -> bool {
+    matches!(
+        steps,
+        [
+            _,
+            _,
+            _,
+            _,
+            Step::Pump(100),
+            Step::Handle(0, 5),
+            Step::Watch(0),
+            Step::Serve(0, 2),
+            ..
+        ]
+    )
+}
+
+fn are_an_operators(steps: &[Step]) -> bool {
+    matches!(
+        steps,
+        [
+            ..,
+            Step::Do(0, _),
+            Step::Cut(1, 3),
+            Step::Crash(0),
+            Step::Restart(0),
+            Step::Clock(0)
+        ]
+    )
+}
+
+/// What is asked of the text.
+enum Asked {
+    Heading,
+    Scripts,
+    /// The steps that take turns.
+    Turns,
+    /// The steps that an operator takes.
+    Operator,
+}
+
+fn has(scenario: &Scenario, asked: &Asked) -> bool {
+    match asked {
+        Asked::Heading => is_headed(scenario),
+        Asked::Scripts => are_scripts(scenario.scripts.as_slice()),
+        Asked::Turns => are_turns(scenario.steps.as_slice()),
+        Asked::Operator => are_an_operators(scenario.steps.as_slice()),
+    }
+}
+
+/// Whether the text is read, and is as it is asked there.
+fn is_read(alloc: Global, asked: &Asked) -> bool {
+    match read_scenario(alloc, TEXT.as_bytes()) {
+        Ok(scenario) => has(&scenario, asked),
+        Err(_) => false,
+    }
 }
 
 #[test]
-fn lines_of_scripts_are_read(rt: HostRuntime) -> Result<(), Fail> {
-    let scenario = read_scenario(rt.alloc(), TEXT.as_bytes())?;
-    let [a, b] = scenario.scripts.as_slice() else {
-        return Err(Fail::new("two scripts"));
-    };
-    assert_eq!(rt; b.lines.len(), 0);
-    assert!(rt;
-        matches!(
-            a.lines.as_slice(),
-            [
-                ScriptLine::Mqconn(_),
-                ScriptLine::Mqput1 { .. },
-                ScriptLine::Mqdisc
-            ]
-        )
-    );
-    Ok(())
+fn every_part_of_a_scenario_is_read(rt: HostRuntime) {
+    assert!(rt; is_read(rt.alloc(), &Asked::Heading));
 }
 
 #[test]
-fn steps_that_take_turns_are_read(rt: HostRuntime) -> Result<(), Fail> {
-    let scenario = read_scenario(rt.alloc(), TEXT.as_bytes())?;
-    assert!(rt;
-        matches!(
-            scenario.steps.as_slice(),
-            [
-                _,
-                _,
-                _,
-                _,
-                Step::Pump(100),
-                Step::Handle(0, 5),
-                Step::Watch(0),
-                Step::Serve(0, 2),
-                ..
-            ]
-        )
-    );
-    Ok(())
+fn lines_of_scripts_are_read(rt: HostRuntime) {
+    assert!(rt; is_read(rt.alloc(), &Asked::Scripts));
 }
 
 #[test]
-fn steps_that_an_operator_takes_are_read(rt: HostRuntime) -> Result<(), Fail> {
-    let scenario = read_scenario(rt.alloc(), TEXT.as_bytes())?;
-    assert!(rt;
-        matches!(
-            scenario.steps.as_slice(),
-            [
-                ..,
-                Step::Do(0, _),
-                Step::Cut(1, 3),
-                Step::Crash(0),
-                Step::Restart(0),
-                Step::Clock(0)
-            ]
-        )
-    );
-    Ok(())
+fn steps_that_take_turns_are_read(rt: HostRuntime) {
+    assert!(rt; is_read(rt.alloc(), &Asked::Turns));
+}
+
+#[test]
+fn steps_that_an_operator_takes_are_read(rt: HostRuntime) {
+    assert!(rt; is_read(rt.alloc(), &Asked::Operator));
 }
