@@ -1,7 +1,7 @@
 //! mq_objects: objects in order of definition, and the commands that make them.
 
 use crate::fixture::name_of;
-use mq_base::Items;
+use mq_base::{Items, QName};
 use mq_objects::{Defs, ManagerAttributes, Object, Setting, Subject, define_text, manager_text};
 use std::alloc::{AllocError, Global};
 use std::test::*;
@@ -100,16 +100,27 @@ fn is_kind(defs: &Defs, place: usize, kind: &str) -> bool {
     }
 }
 
-/// The kinds of the objects that are left, in order.
-const KINDS: [&str; 2] = ["QREMOTE", "QALIAS"];
+/// Whether objects of these kinds stand there in order, and no others.
+fn are_kinds(defs: &Defs, kinds: &[&str]) -> bool {
+    let mut met = defs.len() == kinds.len();
+    for (place, kind) in kinds.iter().enumerate() {
+        met = met && is_kind(defs, place, kind);
+    }
+    met
+}
+
+fn has_local(defs: &Defs, name: &QName) -> bool {
+    defs.local(name).is_some()
+}
+
+fn has_queue(defs: &Defs, name: &QName) -> bool {
+    defs.queue(name).is_some()
+}
 
 #[test]
 fn objects_stand_in_order_of_definition(rt: HostRuntime) {
     let defs = four(rt.alloc());
-    assert_eq!(rt; defs.len(), KINDS.len());
-    for (place, kind) in KINDS.iter().enumerate() {
-        assert!(rt; is_kind(&defs, place, kind), "object {place}");
-    }
-    assert!(rt; defs.local(&name_of("B")).is_none());
-    assert!(rt; defs.queue(&name_of("A")).is_some());
+    assert!(rt; are_kinds(&defs, &["QREMOTE", "QALIAS"]));
+    assert!(rt; !has_local(&defs, &name_of("B")));
+    assert!(rt; has_queue(&defs, &name_of("A")));
 }

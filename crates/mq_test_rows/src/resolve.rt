@@ -6,9 +6,8 @@ use mq_resolve::{PathStep, Route, RouteEnd, resolve};
 use std::alloc::{AllocError, Global};
 use std::test::*;
 
-/// An object of a manager, or its default transmission queue.
+/// An object of a manager.
 enum Made {
-    Default(&'static str),
     Local(&'static str, Usage),
     /// An alias, and what it names.
     Alias(&'static str, &'static str),
@@ -42,32 +41,27 @@ fn set_default(alloc: Global, defs: &mut Defs, name: &str) {
     defs.set_manager(attributes);
 }
 
-fn add(defs: &mut Defs, object: Object) -> Result<(), AllocError> {
-    defs.reserve()?;
-    defs.set(object);
-    Ok(())
-}
-
-fn make(alloc: Global, defs: &mut Defs, made: &Made) -> Result<(), AllocError> {
-    let object = match made {
-        Made::Default(name) => {
-            set_default(alloc, defs, name);
-            return Ok(());
-        }
+fn object_of(alloc: Global, made: &Made) -> Object {
+    match made {
         Made::Local(name, usage) => local(alloc, name, *usage),
         Made::Alias(name, target) => alias(alloc, name, target),
         Made::Remote(name, remote_name, manager, xmitq) => {
             remote(alloc, name, remote_name, manager, xmitq)
         }
-    };
-    add(defs, object)
+    }
 }
 
-fn make_all(alloc: Global, defs: &mut Defs, all: &[Made]) -> Result<(), AllocError> {
-    for made in all {
-        make(alloc, defs, made)?;
+/// An object more; none, where memory lacks.
+fn add(alloc: Global, defs: &mut Defs, made: &Made) {
+    if defs.reserve().is_ok() {
+        defs.set(object_of(alloc, made));
     }
-    Ok(())
+}
+
+fn add_all(alloc: Global, defs: &mut Defs, all: &[Made]) {
+    for made in all {
+        add(alloc, defs, made);
+    }
 }
 
 fn write_end(text: &mut String, end: &RouteEnd) -> Result<(), AllocError> {
@@ -89,22 +83,35 @@ fn write_route(text: &mut String, route: &Route) -> Result<(), AllocError> {
     Ok(())
 }
 
-/// Where a name at a manager's name leads from LONDON, as text, or the number of the reason.
-fn told(alloc: Global, defs: &Defs, name: &str, manager: &str) -> Result<String, AllocError> {
-    let mut text = String::new(alloc);
-    let number = match resolve(defs, &name_of("LONDON"), &name_of(name), &name_of(manager)) {
-        Ok(route) => {
-            write_route(&mut text, &route)?;
-            return Ok(text);
+/// Writes where a name at a manager's name leads from LONDON, or the number of the reason.
+fn tell(text: &mut String, defs: &Defs, name: &str, manager: &str) -> Result<(), AllocError> {
+    match resolve(defs, &name_of("LONDON"), &name_of(name), &name_of(manager)) {
+        Ok(route) => write_route(text, &route),
+        Err(reason) => {
+            let number = reason.number();
+            write!(text, "{number}")
         }
-        Err(reason) => reason.number(),
-    };
-    write!(&mut text, "{number}")?;
-    Ok(text)
+    }
 }
 
-const LONDON: [Made; 8] = [
-    Made::Default("T"),
+/// Whether a name at a manager's name leads there.
+fn leads(alloc: Global, defs: &Defs, name: &str, manager: &str, wanted: &str) -> bool {
+    let mut text = String::new(alloc);
+    tell(&mut text, defs, name, manager).is_ok() && text.as_str() == wanted
+}
+
+/// The first row, from 0, whose name leads elsewhere.
+fn first_wrong(alloc: Global, defs: &Defs, rows: &[(&str, &str, &str)]) -> Option<usize> {
+    for (row, (name, manager, wanted)) in rows.iter().enumerate() {
+        if !leads(alloc, defs, name, manager, wanted) {
+            return Some(row);
+        }
+    }
+    None
+}
+
+/// The objects of LONDON, whose default transmission queue is T.
+const LONDON: [Made; 7] = [
     Made::Local("T", Usage::Transmission),
     Made::Remote("ROME", "", "MILAN", ""),
     Made::Remote("RA", "X", "ROMA", ""),
@@ -114,10 +121,12 @@ const LONDON: [Made; 8] = [
     Made::Remote("RN", "X", "P", "N"),
 ];
 
-fn london(alloc: Global) -> Result<Defs, AllocError> {
+/// These objects; fewer, where memory lacks.
+fn london(alloc: Global) -> Defs {
     let mut defs = Defs::new(alloc);
-    make_all(alloc, &mut defs, &LONDON)?;
-    Ok(defs)
+    set_default(alloc, &mut defs, "T");
+    add_all(alloc, &mut defs, &LONDON);
+    defs
 }
 
 /// A name, a manager's name, and where they lead from LONDON.
@@ -136,20 +145,10 @@ const OPENS: [(&str, &str, &str); 12] = [
     ("", "ROME", "2184"),
 ];
 
-/// Whether a name at a manager's name leads there.
-fn leads(alloc: Global, defs: &Defs, row: &(&str, &str, &str)) -> Result<bool, AllocError> {
-    let (name, manager, wanted) = row;
-    let text = told(alloc, defs, name, manager)?;
-    Ok(text.as_str() == *wanted)
-}
-
 #[test]
-fn names_of_a_manager_lead_where_the_manual_says(rt: HostRuntime) -> Result<(), Fail> {
-    let defs = london(rt.alloc())?;
-    for row in &OPENS {
-        assert!(rt; leads(rt.alloc(), &defs, row)?, "{row:?}");
-    }
-    Ok(())
+fn names_of_a_manager_lead_where_the_manual_says(rt: HostRuntime) {
+    let defs = london(rt.alloc());
+    assert_eq!(rt; first_wrong(rt.alloc(), &defs, &OPENS), None);
 }
 
 /// What stands beside the objects of `london`.
@@ -168,10 +167,11 @@ const BREADTH: [Made; 12] = [
     Made::Remote("FAR", "", "MILAN", "T2"),
 ];
 
-fn breadth(alloc: Global) -> Result<Defs, AllocError> {
-    let mut defs = london(alloc)?;
-    make_all(alloc, &mut defs, &BREADTH)?;
-    Ok(defs)
+/// All of these objects; fewer, where memory lacks.
+fn breadth(alloc: Global) -> Defs {
+    let mut defs = london(alloc);
+    add_all(alloc, &mut defs, &BREADTH);
+    defs
 }
 
 /// The same for a case of each row of the tables.
@@ -194,12 +194,9 @@ const ROWS: [(&str, &str, &str); 15] = [
 ];
 
 #[test]
-fn each_row_of_the_tables_answers(rt: HostRuntime) -> Result<(), Fail> {
-    let defs = breadth(rt.alloc())?;
-    for row in &ROWS {
-        assert!(rt; leads(rt.alloc(), &defs, row)?, "{row:?}");
-    }
-    Ok(())
+fn each_row_of_the_tables_answers(rt: HostRuntime) {
+    let defs = breadth(rt.alloc());
+    assert_eq!(rt; first_wrong(rt.alloc(), &defs, &ROWS), None);
 }
 
 /// Default transmission queues, and what is told of a message to another manager.
@@ -210,13 +207,19 @@ const DEFAULTS: [(&str, &str); 4] = [
     ("N", "2199"),
 ];
 
+/// Whether this is told where LONDON has that default transmission queue.
+fn is_default_told(alloc: Global, defs: &mut Defs, name: &str, wanted: &str) -> bool {
+    set_default(alloc, defs, name);
+    leads(alloc, defs, "Y", "PARIS", wanted)
+}
+
 #[test]
-fn a_bad_defxmitq_is_told(rt: HostRuntime) -> Result<(), Fail> {
-    let mut defs = london(rt.alloc())?;
+fn a_bad_defxmitq_is_told(rt: HostRuntime) {
+    let mut defs = london(rt.alloc());
     for (name, wanted) in &DEFAULTS {
-        set_default(rt.alloc(), &mut defs, name);
-        let right = leads(rt.alloc(), &defs, &("Y", "PARIS", wanted))?;
-        assert!(rt; right, "{name}");
+        assert!(rt;
+            is_default_told(rt.alloc(), &mut defs, name, wanted),
+            "{name}"
+        );
     }
-    Ok(())
 }
