@@ -6,3 +6,4 @@ pub mod OwnLaws
 pub mod CommandLaws
 pub mod StoredLaws
 pub mod DiskLaws
+pub mod RestLaws
