@@ -9,7 +9,6 @@ use Rattle.mq_history.specs.declared.scenario.Scenario.{Scenario}
 use Rattle.mq_log.specs.State.{log_length}
 use Rattle.mq_calls.specs.State.{Given}
 use Rattle.mq_calls.specs.Recovery.{AreKnown, IsImage}
-use Rattle.mq_spec_log.specs.Bodies.{image}
 use Rattle.mq_spec_node.specs.Node.{Own}
 use Rattle.mq_spec_node.specs.Openings.{first_node}
 use Rattle.mq_spec_network.specs.Given as givens
