@@ -11,7 +11,7 @@ use Rattle.mq_sc_parse.specs.declared.command.Command.TheVariants as commands
 use Rattle.mq_spec_node.specs.Terms.{Actor, Call, Command, is_up}
 use Rattle.mq_spec_node.specs.Words.{Deed, Own, obey_deed, shown}
 use Rattle.mq_spec_node.specs.Deeds.{told}
-use Rattle.mq_law_counts.proofs.Climbing.{stay}
+use Rattle.mq_events.proofs.from_law_counts.Climbing.{stay}
 use Rattle.mq_acts.specs.Shows.{lines_of, shown_as, answered}
 use Rattle.mq_events.specs.Outcomes.{Came}
 use Rattle.mq_events.specs.States.{NodeState, IsKept, IsServed, finished, node_in, quietly, entry_of}

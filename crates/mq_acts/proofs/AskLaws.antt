@@ -23,19 +23,11 @@ pub acts_come : (who : Actor) (asked : Act) (old : NodeState) (r : Result Acted 
 acts_come who asked old r b new e h = subst (λ (x : Result Bool NoMemory). Comes who (calls.Act asked) old x new) (sym e) (acts_come_so who asked old r new h)
 
 pub mqi_is : (c : Call) → is_mqi c ≡ true → IsMqi c
-mqi_is (calls.Mqconn qmgr appl) e = tt
-mqi_is (calls.Mqdisc hc) e = tt
-mqi_is (calls.Mqopen hc name qmgr how) e = tt
-mqi_is (calls.Mqclose hc ho) e = tt
-mqi_is (calls.Mqput hc ho md body sync) e = tt
-mqi_is (calls.Mqput1 hc name qmgr md body sync) e = tt
-mqi_is (calls.Mqget hc ho get until) e = tt
-mqi_is (calls.Mqcmit hc) e = tt
-mqi_is (calls.Mqback hc) e = tt
 mqi_is (calls.Act act) e = absurd cc
 mqi_is calls.Turn e = absurd cc
 mqi_is calls.Timeout e = absurd cc
 mqi_is calls.Trigger e = absurd cc
+mqi_is _ e = tt
 
 -- a get's deed is there, or not
 got : (who : Actor) (what : Call) (d : Option Deed) (old : NodeState) (r : Result Bool NoMemory) (new : NodeState) → IsGet what → deed_of 0 who what items.Nothing (node_in old) ≡ d → EventIs who what d old r new → Comes who what old r new
@@ -67,19 +59,11 @@ mqi_comes who calls.Trigger old r new e h = absurd cc
 
 -- none is a restart
 mqi_other : (c : Call) → is_mqi c ≡ true → IsNoRestart c
-mqi_other (calls.Mqconn qmgr appl) e = tt
-mqi_other (calls.Mqdisc hc) e = tt
-mqi_other (calls.Mqopen hc name qmgr how) e = tt
-mqi_other (calls.Mqclose hc ho) e = tt
-mqi_other (calls.Mqput hc ho md body sync) e = tt
-mqi_other (calls.Mqput1 hc name qmgr md body sync) e = tt
-mqi_other (calls.Mqget hc ho get until) e = tt
-mqi_other (calls.Mqcmit hc) e = tt
-mqi_other (calls.Mqback hc) e = tt
 mqi_other (calls.Act act) e = absurd cc
 mqi_other calls.Turn e = absurd cc
 mqi_other calls.Timeout e = absurd cc
 mqi_other calls.Trigger e = absurd cc
+mqi_other _ e = tt
 
 own_came : (who : Actor) (what : Call) (s t : NodeState) (r : Result Bool NoMemory) → IsNode t → IsNoRestart what → Comes who what s r t → StaysOwn s.history.entries t.history.entries
 own_came who what s t (Ok true) k other h none = own_adds who what h.entry s t k.kept h.adds other none

@@ -6,3 +6,5 @@ pub mod AnswerLaws
 pub mod AskLaws
 pub mod ServeLaws
 pub mod LineLaws
+pub mod from_events
+pub mod from_manager

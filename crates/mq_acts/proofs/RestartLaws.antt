@@ -9,7 +9,7 @@ use Rattle.mq_history.specs.declared.acts.Act.TheVariants as acts
 use Rattle.mq_history.specs.declared.acts.Acted.{Acted}
 use Rattle.mq_history.specs.declared.calls.Call.TheVariants as calls
 use Rattle.mq_calls.specs.Images.{raised}
-use Rattle.mq_core.specs.Values.{CoreValue}
+use Rattle.mq_operate.specs.from_core.Values.{CoreValue}
 use Rattle.mq_spec_node.specs.Terms.{Actor, Entry, Plain}
 use Rattle.mq_history.specs.declared.calls.Reply.TheVariants as replies
 use Rattle.mq_spec_node.specs.Words.{begun_anew, Done, IsReplayed, Own, Tells, node_of, done_by, quiet}

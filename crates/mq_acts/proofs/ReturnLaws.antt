@@ -13,12 +13,12 @@ use Rattle.mq_calls.specs.State.{LogState, Noted, Running}
 use Rattle.mq_calls.specs.State.Running.{Up, Down}
 use Rattle.mq_calls.specs.Words.{Plain, is_up}
 use Rattle.mq_spec_manager.specs.Stops.{failed, restart_at}
-use Rattle.mq_core.specs.Values.{CoreValue}
-use Rattle.mq_restart.specs.declared.reading.Unreturned.{Unreturned}
-use Rattle.mq_restart.specs.Returned.{CanEnd, Ends, Passes, Stayed}
-use Rattle.mq_restarts.specs.declared.restarting.Back.{Back}
-use Rattle.mq_restarts.specs.declared.restarting.Back.TheVariants as backs
-use Rattle.mq_restarts.specs.Backs.{IsBack, IsBackFrom}
+use Rattle.mq_operate.specs.from_core.Values.{CoreValue}
+use Rattle.mq_events.specs.from_restart.{Unreturned}
+use Rattle.mq_events.specs.from_restart.Returned.{CanEnd, Ends, Passes, Stayed}
+use Rattle.mq_events.specs.from_restarts.{Back}
+use Rattle.mq_events.specs.from_restarts.BackVariants as backs
+use Rattle.mq_events.specs.from_restarts.Backs.{IsBack, IsBackFrom}
 use Rattle.mq_spec_node.specs.Terms.{Did}
 use Rattle.mq_spec_node.specs.Words.{Own, node_of, begun_anew, quiet, restarted, IsReturn, IsToldReturn}
 use Rattle.mq_events.specs.Counts.{AreBelow}

@@ -3,3 +3,4 @@ pub mod Shows
 pub mod Asks
 pub mod Serving
 pub mod Advances
+pub mod from_events

@@ -11,11 +11,11 @@ use Rattle.mq_history.specs.declared.calls.Chance.TheVariants as chances
 use Rattle.mq_history.specs.declared.calls.Call.TheVariants as calls
 use Rattle.mq_history.specs.declared.calls.Reply.TheVariants as replies
 use Rattle.mq_frame.specs.declared.frame.Seen.TheVariants as items
-use Rattle.mq_restart.specs.Returned.{IsOfImage}
-use Rattle.mq_restart.specs.declared.reading.Unreturned.{Unreturned}
-use Rattle.mq_restarts.specs.declared.restarting.Back.{Back}
-use Rattle.mq_restarts.specs.declared.restarting.Back.TheVariants as backs
-use Rattle.mq_core.specs.Values.{CoreValue}
+use Rattle.mq_events.specs.from_restart.Returned.{IsOfImage}
+use Rattle.mq_events.specs.from_restart.{Unreturned}
+use Rattle.mq_events.specs.from_restarts.{Back}
+use Rattle.mq_events.specs.from_restarts.BackVariants as backs
+use Rattle.mq_operate.specs.from_core.Values.{CoreValue}
 use Rattle.mq_spec_node.specs.Terms.{Act, Acted, Actor, Call, Chance, Did, Entry, Plain}
 use Rattle.mq_spec_node.specs.Words.{Own, node_of, begun_anew, quiet, restart_event, answer_of, IsReturn, IsOwn, NoneForeign}
 use Rattle.mq_events.specs.Counts.{AreBelow, HasFewRows}

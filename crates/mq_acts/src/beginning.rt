@@ -5,7 +5,7 @@ ghost use Rattle.mq_spec_node.specs.Words.{begun_anew, end_begun};
 use crate::showing::receiver_kept;
 use mq_base::Items;
 use mq_disk::Disk;
-use mq_manager::Manager;
+use mq_events::below::Manager;
 use mq_own::{ChannelEnd, EndKind, Own, forget_all};
 use mq_receiver::Receiver;
 

@@ -6,6 +6,7 @@ mod advancing;
 mod answering;
 mod asking;
 mod beginning;
+pub mod below;
 mod playing;
 mod restarting;
 mod serving;

@@ -11,12 +11,10 @@ use crate::beginning::begin;
 use mq_base::{Items, NoMemory};
 use mq_calls::{Delta, RestartFault, Return};
 use mq_disk::Disk;
+use mq_events::below::{Back, Manager, Unreturned};
 use mq_events::{Node, NodeParts};
 use mq_frame::Seen;
 use mq_history::{Act, Acted, Actor, Call, Chance, Effect, Entry, Reply};
-use mq_manager::Manager;
-use mq_restart::Unreturned;
-use mq_restarts::Back;
 use std::alloc::Global;
 
 /// What a restart came to, as the history keeps it.

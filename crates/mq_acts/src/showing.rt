@@ -4,12 +4,11 @@ ghost use Rattle.mq_calls.specs.Words.{receiver_data, sender_data};
 ghost use Rattle.mq_spec_node.specs.Status.{channel_at, is_asked, status_line};
 ghost use Rattle.mq_acts.specs.Shows.{lines_of, shown_as};
 
-use mq_agents::Hardened;
 use mq_base::{ChName, Items};
 use mq_calls::{ScRefusal, Shown};
 use mq_disk::Disk;
+use mq_events::below::{Hardened, Manager};
 use mq_history::Acted;
-use mq_manager::Manager;
 use mq_own::{ChannelEnd, EndKind};
 use mq_status::{receiver_line, sender_line};
 use mq_sync::{ReceiverData, SenderData};

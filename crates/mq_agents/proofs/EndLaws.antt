@@ -9,9 +9,9 @@ use Rattle.mq_calls.specs.declared.state.Seizure.{Seizure}
 use Rattle.mq_place.specs.States.{on_queues}
 use Rattle.mq_core.specs.declared.parts.ChannelEnds.{ChannelEnds}
 use Rattle.mq_core.specs.Views.{PartsValue, plain_of, frozen_of, channels_of}
-use Rattle.mq_core.specs.Ties.{Tied, mode_is_up, one_if, times_in_rows, state_lanes, pending_at, EndsReady}
+use Rattle.mq_core.specs.Ties.{Tied, mode_is_up, one_if, times_in_rows, EndsReady}
 use Rattle.mq_core.specs.Placing.{with_states}
-use Rattle.mq_core.proofs.ForceLaws.{queues_on, seen_on, times_on}
+use Rattle.mq_core.proofs.ForceLaws.{queues_on, tied_where, tied_on}
 use Rattle.mq_core.proofs.MeetLaws.{running_up}
 
 unfoldable pub with_ends : ChannelEnds → PartsValue → PartsValue
@@ -19,16 +19,7 @@ with_ends e x = record x { ends = e }
 
 pub tied_ends : (e : ChannelEnds) (x : PartsValue) → (EndsReady x.ends x.log.spare → EndsReady e x.log.spare) → Tied x → Tied (with_ends e x)
 unfolding with_ends
-tied_ends e x same t = record {
-  up = λ u. let w = t.up u in record { live = w.live; settled = w.settled; ends = same w.ends; room = w.room; body = w.body };
-  reserved = t.reserved;
-  within = t.within;
-  queues = record { lanes = t.queues.lanes; pending = t.queues.pending };
-  idents = record { once = t.idents.once; given = t.idents.given };
-  forced = t.forced;
-  max = t.max;
-  moment = t.moment;
-}
+tied_ends e x same t = tied_where [] [] e x.log x.body x.mode x (λ u. let w = t.up u in record { live = w.live; settled = w.settled; ends = same w.ends; room = w.room; body = w.body }) t.reserved t.within t.max t
 
 -- so who has seized which queue
 unfoldable pub seized : List Seizure → PartsValue → PartsValue
@@ -74,25 +65,10 @@ times_freed i which q = times_retag i (λ (row : Row). release_if (selects which
 unfoldable pub with_rows : (StateQueue → StateQueue) → ChannelEnds → PartsValue → PartsValue
 with_rows f e x = record (with_states (on_queues f x.queues.states) x) { ends = e }
 
-module _ (f : StateQueue → StateQueue) (named : (q : StateQueue) → (f q).name ≡ q.name) (times : (i : Ident) (q : StateQueue) → times_in_rows i (f q).rows ≤ times_in_rows i q.rows) where
-  pub tied_rows : (e : ChannelEnds) (x : PartsValue) → (EndsReady x.ends x.log.spare → EndsReady e x.log.spare) → Tied x → Tied (with_rows f e x)
-  unfolding with_rows
-  tied_rows e x same t = record {
-    up = λ u. let w = t.up u in record { live = w.live; settled = w.settled; ends = same w.ends; room = w.room; body = w.body };
-    reserved = t.reserved;
-    within = t.within;
-    queues = record {
-      lanes = λ name. seen_on f named state_lanes (λ s. refl) name x.queues.states ∙ t.queues.lanes name;
-      pending = λ name. seen_on f named pending_at (λ s. refl) name x.queues.states ∙ t.queues.pending name;
-    };
-    idents = record {
-      once = λ i. let less = times_on i f (times i) x.queues.states in let old = t.idents.once i in omega (arith, less, old);
-      given = λ i a b c. let less = times_on i f (times i) x.queues.states in let old = t.idents.given i a b c in omega (arith, less, old);
-    };
-    forced = t.forced;
-    max = t.max;
-    moment = t.moment;
-  }
+pub tied_rows : (f : StateQueue → StateQueue) → ((q : StateQueue) → (f q).name ≡ q.name) → ((i : Ident) (q : StateQueue) → times_in_rows i (f q).rows ≤ times_in_rows i q.rows) → (e : ChannelEnds) (x : PartsValue)
+    → (EndsReady x.ends x.log.spare → EndsReady e x.log.spare) → Tied x → Tied (with_rows f e x)
+unfolding with_rows with_ends
+tied_rows f named times e x same t = tied_ends e (with_states (on_queues f x.queues.states) x) same (tied_on f named times [] [] x t)
 
 with_running_rows : PartsValue → ChannelEnds → Running → List StateQueue → Plain
 with_running_rows x e r qs = record (plain_of x) { running = r; queues = qs; channels = channels_of e }

@@ -12,8 +12,8 @@ use Rattle.mq_calls.specs.Words.{Reason, Part, ManagerValue, MeetsOrWants, Do}
 use Rattle.mq_calls.specs.declared.commands.Halt.{Halt}
 use Rattle.mq_calls.specs.declared.records.Remove.{Remove}
 use Rattle.mq_spec_manager.specs.Words.{Never}
-use Rattle.mq_scan.specs.declared.scanning.Met.{Met}
-use Rattle.mq_scan.specs.Scans.{met_of}
+use Rattle.mq_get.specs.from_scan.{Met}
+use Rattle.mq_get.specs.from_scan.Scans.{met_of}
 use Rattle.mq_base.specs.declared.want.NoMemory.{NoMemory}
 use Rattle.mq_calls.specs.State.{Queue as StateQueue}
 use Rattle.mq_spec_manager.specs.Agents.{expired_rows}
@@ -22,7 +22,7 @@ use Rattle.mq_core.proofs.PlaceLaws.{queue_in_state}
 use Rattle.mq_place.proofs.AfterLaws.{free_next, free_none, rows_from_front}
 use Rattle.mq_core.specs.Values.{CoreValue, manager_of, begun_call, WritesLog}
 use Rattle.mq_core.specs.Views.{PartsValue, plain_of}
-use Rattle.mq_unit.specs.Told.{Telling}
+use Rattle.mq_get.specs.from_unit.Told.{Telling}
 use Rattle.mq_get.specs.Does.{seen, IsCleared, Halts}
 use Rattle.mq_get.specs.Leaving.{gone_parts, leaving_need, removes_met}
 use Rattle.mq_get.proofs.DoesLaws.{run_meets, broken_meets}

@@ -25,7 +25,7 @@ use Rattle.mq_core.specs.Placing.{with_states}
 use Rattle.mq_law_manager.specs.View.{view}
 use Rattle.mq_law_manager.specs.Facts.{Mem, Chain, Differ, ident_of, IsOf, AreNamed, Sound}
 use Rattle.mq_agents.specs.Settling.{AreLone, IsShortOf, none_named, row_in, each_in, settled_in, row_settled, each_settled, rows_settled, with_named}
-use Rattle.mq_law_manager.proofs.Lists.{mem_append, mem_before, mem_behind, ident_yes, ident_self, name_self, one_row}
+use Rattle.mq_law_manager.proofs.Lists.{mem_append, mem_before, mem_behind, ident_yes, same_self, name_self, one_row}
 use Rattle.mq_law_manager.proofs.Named.{name_turned}
 use Rattle.mq_law_manager.proofs.Batches.{by_batch}
 
@@ -366,7 +366,7 @@ or_none true e = refl
 or_none false e = e
 
 mark_self : (name : List ℕ) (row : Row) → is_marked name row (record { queue = name; ident = row.message.ident }) ≡ true
-mark_self name row = λ i. name_self name i && (ident_self row.message.ident i || false)
+mark_self name row = λ i. name_self name i && (same_self row.message.ident i || false)
 
 held_marked : (by : Holder) (qs : List Queue) → AreLone qs → (q : Queue) → Mem q qs → (row : Row) → Mem row q.rows → marks (flat_map (held_on by) qs) q.name row ≡ true → held_by by row.by ≡ true
 held_marked by qs l q m row there e =

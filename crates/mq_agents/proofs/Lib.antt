@@ -10,3 +10,6 @@ pub mod FillLaws
 pub mod DoubtLaws
 pub mod SettleLaws
 pub mod BindLaws
+pub mod from_core
+pub mod from_get
+pub mod from_record

@@ -152,16 +152,16 @@ module _ (had : Bool) (channel : List ℕ) (x k y : PartsValue) (f : IsSettling 
 
   -- no memory was wanted for a unit that was in doubt
   pub settling_none : (side : List ℕ) (n : ℕ) (u : Unwritten) → had ≡ true → n ≤ 39 → side ≡ channel
-      → Lacks {T = Option SenderSide} (AreByName (λ (s : SenderSide). s.channel) y.ends.senders → find (λ (s : SenderSide). bytes_eq side s.channel) y.ends.senders ≡ None) (5 + n) y (Err u) → u ≡ unwritten.NoMemory → ⊥
+      → Lacks {T = Option SenderSide} (AreByName (λ (s : SenderSide). s.channel) y.ends.senders → find (λ (s : SenderSide). bytes_eq side s.channel) y.ends.senders ≡ None) (5 + n) y.log (Err u) → u ≡ unwritten.NoMemory → ⊥
   settling_none side n u yes_ small named l =
       let same : y.ends.senders ≡ k.ends.senders = ap (λ (d : ChannelEnds). d.senders) (drawn_ends had k y f.drawn) in
       let some : is_some (in_doubt_of (sender_in side y.ends.senders)) ≡ true = (λ i. is_some (in_doubt_of (sender_in (named i) (same i)))) ∙ sym f.doubt ∙ yes_ in
-      not_wanted (Option SenderSide) (AreByName (λ (s : SenderSide). s.channel) y.ends.senders → find (λ (s : SenderSide). bytes_eq side s.channel) y.ends.senders ≡ None) (5 + n) y u l
+      not_wanted (Option SenderSide) (AreByName (λ (s : SenderSide). s.channel) y.ends.senders → find (λ (s : SenderSide). bytes_eq side s.channel) y.ends.senders ≡ None) (5 + n) y.log u l
       (drawn_roomy k y n (f.drawn ∙ ap (λ (b : Bool). drawn_if b k) yes_) small ((tied_roomier x k f.more f.tied).up named_up).room)
       (λ none. doubt_found side y.ends.senders some (none (subst (AreByName (λ (s : SenderSide). s.channel)) (sym same) settling_ready.senders)))
 
   pub settling_more : (side : List ℕ) (n : ℕ) (u : Unwritten) → n ≤ 39 → side ≡ channel
-      → Lacks {T = Option SenderSide} (AreByName (λ (s : SenderSide). s.channel) y.ends.senders → find (λ (s : SenderSide). bytes_eq side s.channel) y.ends.senders ≡ None) (5 + n) y (Err u) → u ≡ unwritten.NoMemory → HasMoreRoom x y
+      → Lacks {T = Option SenderSide} (AreByName (λ (s : SenderSide). s.channel) y.ends.senders → find (λ (s : SenderSide). bytes_eq side s.channel) y.ends.senders ≡ None) (5 + n) y.log (Err u) → u ≡ unwritten.NoMemory → HasMoreRoom x y
   settling_more side n u small named l none = drawn_more had x k y f.more f.drawn (unless had (λ yes_. settling_none side n u yes_ small named l none))
 
 -- what is named is not more than what the unit lists

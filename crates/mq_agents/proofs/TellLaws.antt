@@ -1,7 +1,7 @@
 -- What calls tell of one value after another.
 use Rattle.std.proofs.Common.{◌≡◌, ℕ, suc, ◌+◌, ◌-◌, ◌<◌, ◌≤◌, List, [], ◌∷◌, ◌++◌, length, get_or, drop, map, ap, sym, ◌∙◌, append_assoc, add-one, drop-cons, arith}
 use Rattle.mq_calls.specs.declared.deltas.Did.{Did}
-use Rattle.mq_unit.specs.Told.{Telling, told, told_all}
+use Rattle.mq_get.specs.from_unit.Told.{Telling, told, told_all}
 
 module _ {A : Type 0} (f : A → Did) where
   -- what is left to tell, and room for it

@@ -9,7 +9,7 @@ use Rattle.mq_sync.specs.declared.data.End.TheVariants as sync_ends
 use Rattle.mq_log.specs.State.{LogState, Appended}
 use Rattle.mq_log.specs.Force.{Stops}
 use Rattle.mq_record.specs.Records.{record_bytes}
-use Rattle.mq_calls.specs.Words.{Plain, Part, Change, ManagerValue, ReceiverData, Step, Wants, MeetsDone, MeetsInRoom, MeetsOrWants, Refuse, Do, receiver_or, receiver_data, Noted, need, logged, apply, apply_all, freeze, note_of}
+use Rattle.mq_calls.specs.Words.{Plain, Part, Change, ManagerValue, ReceiverData, Step, Wants, MeetsDone, MeetsInRoom, MeetsOrWants, Refuse, Do, sender_or, sender_data, receiver_or, receiver_data, Noted, need, logged, apply, apply_all, freeze, note_of}
 use Rattle.mq_calls.specs.declared.deltas.Did.{Did}
 use Rattle.mq_calls.specs.declared.agents.Note.{Note}
 use Rattle.mq_calls.specs.declared.records.LogRecord.{LogRecord}
@@ -36,9 +36,9 @@ use Rattle.mq_core.proofs.PutLaws.{more_room, tied_roomier, roomier_view}
 use Rattle.mq_place.specs.Rooms.{RoomStays, RowsKept}
 use Rattle.mq_record.specs.Room.{Buffered}
 use Rattle.mq_get.specs.Rooms.{IsRoomy}
-use Rattle.mq_core.proofs.ForceLaws.{forced_view, frozen_view, tied_downed, stops_at}
+use Rattle.mq_core.proofs.ForceLaws.{forced_view, frozen_view, tied_where, tied_downed, stops_at}
 use Rattle.mq_agents.specs.Ends.{halt_of, stopped_agent}
-use Rattle.mq_agents.specs.Written.{IsAside, IsWhole, IsWritten, Lacks, Writes, WantsNone, drawn, drawn_if, drawn_need, is_live, agent_of, stop_of, with_senders, with_receivers, note_record, noted_change}
+use Rattle.mq_agents.specs.Written.{IsAside, IsWhole, IsLogged, IsUnlogged, IsWritten, Lacks, Writes, WantsNone, downed_if, drawn, drawn_if, drawn_need, is_live, agent_of, stop_of, with_senders, with_receivers, note_record, noted_change, noted_sender, noted_receiver, IsSenderNote, IsReceiverNote}
 use Rattle.mq_agents.specs.declared.hardening.Unwritten.{Unwritten}
 use Rattle.mq_agents.specs.declared.hardening.Unwritten.TheVariants as unwritten
 use Rattle.mq_agents.specs.Ends.{by_agent}
@@ -58,14 +58,14 @@ forced_as r bytes e x y result is size w =
     let whole : 5 + length bytes ≡ need r = ap (λ (n : ℕ). 5 + n) size.0 in
     record {
       same = refl;
-      log = subst (λ (b : List ℕ). Appended x.log b result y.log) is w.log;
+      log = subst (λ (b : List ℕ). Appended x.log b result y.log) is w.log.appended;
       fits = size.1;
       size = ap length (sym is) ∙ size.0;
-      ends = w.calls;
-      room = subst (λ (n : ℕ). OnOk result (x.log.room ≤ y.log.room + n)) whole w.room;
+      ends = w.log.calls;
+      room = subst (λ (n : ℕ). OnOk result (x.log.room ≤ y.log.room + n)) whole w.log.room;
       body = omega arith;
-      later = w.later;
-      disk = w.disk;
+      later = w.log.later;
+      disk = w.log.disk;
     }
 
 with_channels : ChannelEnds → Plain → Plain
@@ -125,6 +125,27 @@ pub roomed_more : (x y : PartsValue) (k : RowsKept) (room spare : ℕ) (b : Buff
     → x.log.room ≤ room → x.log.spare ≤ spare → RoomStays x.ends.rows k → x.body.room + length x.body.bytes ≤ b.room + length b.bytes → HasMoreRoom x y
 roomed_more x y k room spare b e more aside rows body = seated_more x y k x.ends.bound.seats room spare b e more aside rows (λ name h. h) body
 
+-- What was forced with a side, or was not, as the parts see it.
+pub forced_written : (bytes : List ℕ) (x y : PartsValue) (e f : ChannelEnds) (log : LogState) → y ≡ x → f ≡ e → EndsReady e x.log.spare → IsLogged bytes y.log (Ok tt) log → IsWritten bytes e x (Ok tt) (record y { ends = f; log = log })
+forced_written bytes x y e f log seen is ready w = record { same = λ i. record (seen i) { ends = is i; log = log }; log = subst (λ (p : PartsValue). IsLogged bytes p.log (Ok tt) log) seen w; ends = ready }
+
+with_room : LogState → ℕ → LogState
+with_room log n = record log { room = n }
+
+pub not_forced : (write : StoppedWrite) (u : Unwritten) (bytes : List ℕ) (x y : PartsValue) (e f : ChannelEnds) (log : LogState) → y ≡ x → f ≡ x.ends → IsUnlogged bytes y.log u log
+    → Writes bytes e write x (Err u) (downed_if write u (record y { ends = f; log = log }))
+unfolding with_room with_log
+not_forced write unwritten.NoMemory bytes x y e f log seen back w =
+    let is : log ≡ with_room x.log log.room = w.0 ∙ ap (λ (p : PartsValue). with_room p.log log.room) seen in
+    let had = ap (λ (p : PartsValue). p.log.room) seen in
+    roomed_more x (record y { ends = f; log = log }) x.ends.rows log.room x.log.spare x.body (λ i. record (seen i) { ends = back i; log = is i }) (omega (arith, had, w.1)) (omega arith) (omega arith) (omega arith)
+not_forced write (unwritten.Stopped stop) bytes x y e f log seen back w =
+    record {
+      at = with_log log x;
+      is = record { same = refl; log = subst (λ (p : PartsValue). IsLogged bytes p.log (Err stop) log) seen w; ends = tt };
+      down = λ i. downed write (record (seen i) { ends = back i; log = log });
+    }
+
 pub aside_trans : (x y z : PartsValue) → IsAside x y → IsAside y z → IsAside x z
 unfolding roomed
 aside_trans x y z m n = record { same = n.same ∙ ap (roomed z.ends.rows z.ends.bound.seats z.log.room z.log.spare z.body) m.same; body = omega (arith, m.body, n.body) }
@@ -143,22 +164,13 @@ rows_aside x y k e =
 pub aside_tied : (x y : PartsValue) → IsAside x y → x.log.room ≤ y.log.room → EndsReady y.ends y.log.spare → Tied x → Tied y
 aside_tied x y m room ready t =
     let e : y.ends ≡ roomier_ends x.ends y.ends = ap (λ (p : PartsValue). p.ends) m.same in
-    subst Tied (sym m.same) (record {
-      up = λ u. let w = t.up u in record {
-        live = w.live;
-        settled = w.settled;
-        ends = subst (λ (k : ChannelEnds). EndsReady k y.log.spare) e ready;
-        room = let a = w.room in omega (arith, a, room);
-        body = let a = w.body in omega (arith, a, m.body);
-      };
-      reserved = t.reserved;
-      within = t.within;
-      queues = record { lanes = t.queues.lanes; pending = t.queues.pending };
-      idents = record { once = t.idents.once; given = t.idents.given };
-      forced = t.forced;
-      max = t.max;
-      moment = t.moment;
-    })
+    subst Tied (sym m.same) (tied_where [] [] (roomier_ends x.ends y.ends) (record x.log { room = y.log.room; spare = y.log.spare }) y.body x.mode x (λ u. let w = t.up u in record {
+      live = w.live;
+      settled = w.settled;
+      ends = subst (λ (k : ChannelEnds). EndsReady k y.log.spare) e ready;
+      room = let a = w.room in omega (arith, a, room);
+      body = let a = w.body in omega (arith, a, m.body);
+    }) t.reserved t.within t.max t)
 
 pub drawn_aside : (n : ℕ) (x : PartsValue) → IsAside x (drawn n x)
 drawn_aside n x = record { same = refl; body = omega arith }
@@ -175,31 +187,22 @@ put_ends e log p = record p { ends = e; log = log }
 pub hardened_tied : (bytes : List ℕ) (e : ChannelEnds) (x y z : PartsValue) → IsAside x y → IsWritten bytes e y (Ok tt) z → Tied x → Tied z
 unfolding put_ends
 hardened_tied bytes e x y z m w t =
-    let live = ap (λ (l : LogState). l.live) w.log in
-    let settled = ap (λ (l : LogState). l.pending) w.log in
-    let reserved = ap (λ (l : LogState). l.reserved) w.log in
-    let most = ap (λ (l : LogState). l.max) w.log in
-    let spare = ap (λ (l : LogState). l.spare) w.log in
+    let live = ap (λ (l : LogState). l.live) w.log.appended in
+    let settled = ap (λ (l : LogState). l.pending) w.log.appended in
+    let reserved = ap (λ (l : LogState). l.reserved) w.log.appended in
+    let most = ap (λ (l : LogState). l.max) w.log.appended in
+    let spare = ap (λ (l : LogState). l.spare) w.log.appended in
     let lived = ap (λ (p : PartsValue). p.log.live) m.same in
     let pended = ap (λ (p : PartsValue). p.log.pending) m.same in
     let held = ap (λ (p : PartsValue). p.log.reserved) m.same in
     let long = ap (λ (p : PartsValue). p.log.max) m.same in
-    subst Tied (sym (w.same ∙ ap (put_ends e z.log) m.same)) (record {
-      up = λ u. let old = t.up u in record {
-        live = live ∙ lived ∙ old.live;
-        settled = settled ∙ pended ∙ old.settled;
-        ends = subst (EndsReady e) (sym spare) w.ends;
-        room = omega (arith, reserved, w.enough);
-        body = let b = old.body in omega (arith, reserved, held, b, m.body);
-      };
-      reserved = λ u. reserved ∙ held ∙ t.reserved u;
-      within = λ u. let w = t.within u in omega (arith, reserved, held, most, long, w);
-      queues = record { lanes = t.queues.lanes; pending = t.queues.pending };
-      idents = record { once = t.idents.once; given = t.idents.given };
-      forced = t.forced;
-      max = omega (arith, most, long, t.max);
-      moment = t.moment;
-    })
+    subst Tied (sym (w.same ∙ ap (put_ends e z.log) m.same)) (tied_where [] [] e z.log y.body x.mode x (λ u. let old = t.up u in record {
+      live = live ∙ lived ∙ old.live;
+      settled = settled ∙ pended ∙ old.settled;
+      ends = subst (EndsReady e) (sym spare) w.ends;
+      room = omega (arith, reserved, w.log.enough);
+      body = let b = old.body in omega (arith, reserved, held, b, m.body);
+    }) (λ u. reserved ∙ held ∙ t.reserved u) (λ u. let w = t.within u in omega (arith, reserved, held, most, long, w)) (omega (arith, most, long, t.max)) t)
 
 -- the write was stopped
 downed_by : StoppedWrite → PartsValue → PartsValue
@@ -217,35 +220,18 @@ asleep x = record x { mode = modes.Down None 0 None }
 
 asleep_tied : (x y : PartsValue) → IsAside x y → Tied x → Tied (asleep y)
 unfolding asleep
-asleep_tied x y m t = subst (λ (p : PartsValue). Tied (asleep p)) (sym m.same) (record {
-  up = λ u. absurd (true_false (sym u));
-  reserved = λ u. absurd (true_false (sym u));
-  within = λ u. absurd (true_false (sym u));
-  queues = record { lanes = t.queues.lanes; pending = t.queues.pending };
-  idents = record { once = t.idents.once; given = t.idents.given };
-  forced = t.forced;
-  max = t.max;
-  moment = t.moment;
-})
+asleep_tied x y m t = subst (λ (p : PartsValue). Tied (asleep p)) (sym m.same)
+    (tied_where [] [] (roomier_ends x.ends y.ends) (record x.log { room = y.log.room; spare = y.log.spare }) y.body (modes.Down None 0 None) x (λ u. absurd (true_false (sym u))) (λ u. absurd (true_false (sym u))) (λ u. absurd (true_false (sym u))) t.max t)
 
 other_ends : (e : ChannelEnds) (z : PartsValue) → mode_is_up z.mode ≡ false → Tied z → Tied (with_ends e z)
 unfolding with_ends
-other_ends e z down t = record {
-  up = λ u. absurd (true_false (sym u ∙ down));
-  reserved = λ u. absurd (true_false (sym u ∙ down));
-  within = λ u. absurd (true_false (sym u ∙ down));
-  queues = record { lanes = t.queues.lanes; pending = t.queues.pending };
-  idents = record { once = t.idents.once; given = t.idents.given };
-  forced = t.forced;
-  max = t.max;
-  moment = t.moment;
-}
+other_ends e z down t = tied_where [] [] e z.log z.body z.mode z (λ u. absurd (true_false (sym u ∙ down))) t.reserved t.within t.max t
 
 pub down_tied : (write : StoppedWrite) (r : LogRecord) (bytes : List ℕ) (stop : Stop) (x y z : PartsValue) → bytes ≡ record_bytes r → IsWhole bytes r → IsAside x y → IsWritten bytes (record y.ends { rows = z.ends.rows }) y (Err stop) z → Tied x → Tied (downed write z)
 unfolding with_log with_ends downed_by asleep
 down_tied write r bytes stop x y z is size m w t =
     let e : ChannelEnds = record y.ends { rows = z.ends.rows } in
-    let v : IsWritten bytes e (asleep y) (Err stop) (asleep z) = record { same = ap asleep w.same; log = w.log; calls = w.calls; room = tt; enough = tt; ends = tt; later = w.later; disk = w.disk } in
+    let v : IsWritten bytes e (asleep y) (Err stop) (asleep z) = record { same = ap asleep w.same; log = w.log; ends = tt } in
     subst (λ (k : PartsValue). Tied (downed_by write k)) (sym w.same)
     (other_ends e (downed write (with_log z.log (asleep y))) refl (tied_downed write r [] (asleep y) (with_log z.log (asleep y)) stop (forced_as r bytes e (asleep y) (asleep z) (Err stop) is size v) (asleep_tied x y m t)))
 
@@ -287,6 +273,20 @@ noted_as channel note change x e = ap note_of_part (frozen_part channel note cha
 pub halt_stopped : {F : Type 0} (stop : Stop) → halt_of {F = F} (stopped_agent stop) ≡ halts.Stopped stop
 halt_stopped stops.Cut = refl
 halt_stopped stops.Disk = refl
+
+-- what was kept of an end after a note is what the note changes
+pub sender_changed : (channel : List ℕ) (note : Note) (side : SenderSide) (p : Plain) → IsSenderNote channel note p → side ≡ noted_sender channel note p → harden_part channel note p ≡ noted_change channel note (SetSender channel side.hardened)
+sender_changed channel note side p part is = part ∙ ap (λ (k : SenderSide). noted_change channel note (SetSender channel k.hardened)) (sym is)
+
+pub receiver_changed : (channel : List ℕ) (note : Note) (side : ReceiverSide) (p : Plain) → IsReceiverNote channel note p → side ≡ noted_receiver channel note p → harden_part channel note p ≡ noted_change channel note (SetReceiver channel side.hardened)
+receiver_changed channel note side p part is = part ∙ ap (λ (k : ReceiverSide). noted_change channel note (SetReceiver channel k.hardened)) (sym is)
+
+pub noted_doubt : (channel : List ℕ) (note : Note) (p : Plain) → (noted_sender channel note p).hardened.in_doubt ≡ (sender_or (sender_data channel p)).in_doubt
+noted_doubt channel (notes.Session partner session) p = refl
+noted_doubt channel (notes.Resolved unit commit operator) p = refl
+noted_doubt channel (notes.Bound partner session last) p = refl
+noted_doubt channel (notes.Closed session) p = refl
+noted_doubt channel (notes.SeqSet end last) p = refl
 
 -- how the step ends
 pub hardened_meets : (v new : ManagerValue) (channel : List ℕ) (note : Note) (change : Change) → harden_part channel note v.plain ≡ noted_change channel note change
@@ -408,9 +408,9 @@ part_ends F (unwritten.Stopped stop) v x y z told write r changes delta reply by
     ∙ ap (λ (p : PartsValue). freeze (noted (frozen_of p) (Some write)) k.log.armed (plain_of p)) m.same
     ∙ ap (λ (o : Option Noted). freeze o k.log.armed (plain_of x)) note ∙ ap (freeze_noted n k.log.armed) plain ∙ ap (λ (a : ℕ). freeze_noted n a v.plain) (sym armed) in
     broke_as Anywhere v (record { plain = plain_of z; delta = told; stopped = Some stop; faults = z.log.faults }) reply r changes delta stop (halt_of {F = F} (stopped_agent stop)) (halt_stopped {F = F} stop) frozen none refl
-    (subst (λ (a : ℕ). Stops a (Err stop) z.log.armed) before (subst (λ (a : ℕ). Stops y.log.armed (Err stop) a) (sym armed) w.is.calls))
-    (omega (arith, had, failed, w.is.later))
-    (λ d. subst (λ (a : ℕ). Rose a z.log.faults) had (subst (λ (a : ℕ). Rose y.log.faults a) (sym failed) (w.is.disk (ap (λ (s : Stop). Err s) d))))
+    (subst (λ (a : ℕ). Stops a (Err stop) z.log.armed) before (subst (λ (a : ℕ). Stops y.log.armed (Err stop) a) (sym armed) w.is.log.calls))
+    (omega (arith, had, failed, w.is.log.later))
+    (λ d. subst (λ (a : ℕ). Rose a z.log.faults) had (subst (λ (a : ℕ). Rose y.log.faults a) (sym failed) (w.is.log.disk (ap (λ (s : Stop). Err s) d))))
 
 pub unwritten_ends : (F : Type 0) {T : Type 0} (u : Unwritten) (v : ManagerValue) (x y z : PartsValue) (told : List Did) (write : StoppedWrite) (r : LogRecord) (changes : List Change) (delta : List Did) (reply : T) (bytes : List ℕ) (e : ChannelEnds)
     → (agent : AgentStop) (stopped : Option Stop) → agent ≡ agent_of u → stopped ≡ stop_of u → mode_is_up x.mode ≡ true
@@ -428,10 +428,10 @@ tied_after (unwritten.Stopped stop) x y z write r bytes e m more is size w t = s
 
 -- What the log tells then: the record, which was forced or is pending.
 pub hardened_bodies : (r : LogRecord) (bytes : List ℕ) (e : ChannelEnds) (x y : PartsValue) → bytes ≡ record_bytes r → IsWritten bytes e x (Ok tt) y → bodies_in y.log ≡ behind_record (Some r) (bodies_in x.log)
-hardened_bodies r bytes e x y is w = ap bodies_in (subst (λ (b : List ℕ). Appended x.log b (Ok tt) y.log) is w.log)
+hardened_bodies r bytes e x y is w = ap bodies_in (subst (λ (b : List ℕ). Appended x.log b (Ok tt) y.log) is w.log.appended)
 
 down_bodies : (r : LogRecord) (bytes : List ℕ) (stop : Stop) (x y : PartsValue) → bytes ≡ record_bytes r → IsWritten bytes (record x.ends { rows = y.ends.rows }) x (Err stop) y → bodies_in y.log ≡ pending_record (Some r) (bodies_in x.log)
-down_bodies r bytes stop x y is w = ap bodies_in (subst (λ (b : List ℕ). Appended x.log b (Err stop) y.log) is w.log)
+down_bodies r bytes stop x y is w = ap bodies_in (subst (λ (b : List ℕ). Appended x.log b (Err stop) y.log) is w.log.appended)
 
 pub broke_told : {F T : Type 0} (v new : CoreValue) (halt : Halt F) (stop : Stop) (reply : T) (part : Part) → halt ≡ halts.Stopped stop → is_some part.forced ≡ true → IsRecordIn part.forced → new.plain ≡ freeze (note_of part part.forced) new.plain.log.armed v.plain
     → new.log ≡ pending_record part.forced v.log → WritesLog v (Do reply (part ∷ [])) (Err halt) new
@@ -527,7 +527,7 @@ stopped_agent_some : (stop : Stop) → WantsNone {T = Unit {0}} (Err (stopped_ag
 stopped_agent_some stops.Cut = tt
 stopped_agent_some stops.Disk = tt
 
-pub not_wanted : (T : Type 0) (absent : Type 0) (n : ℕ) (x : PartsValue) (u : Unwritten) → Lacks {T = T} absent n x (Err u) → x.log.reserved + n ≤ x.log.room → (absent → ⊥) → u ≡ unwritten.NoMemory → ⊥
+pub not_wanted : (T : Type 0) (absent : Type 0) (n : ℕ) (x : LogState) (u : Unwritten) → Lacks {T = T} absent n x (Err u) → x.reserved + n ≤ x.room → (absent → ⊥) → u ≡ unwritten.NoMemory → ⊥
 not_wanted T absent n x unwritten.NoMemory (inl short) room there e = absurd (omega (arith, short, room))
 not_wanted T absent n x unwritten.NoMemory (inr none) room there e = there none
 not_wanted T absent n x (unwritten.Stopped stop) l room there e = absurd cc

@@ -4,3 +4,7 @@ pub mod Removing
 pub mod Releasing
 pub mod Expiring
 pub mod Settling
+pub mod from_core
+pub mod from_place
+pub mod from_record
+pub mod from_unit

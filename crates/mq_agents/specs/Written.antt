@@ -3,7 +3,7 @@ use Rattle.std.specs.Prelude.{◌≡◌, ◌⊎◌, ℕ, ◌+◌, ◌-◌, ◌<�
 use Rattle.mq_base.specs.Outside.{Rose}
 use Rattle.mq_disk.specs.declared.cutter.Stop.{Stop}
 use Rattle.mq_disk.specs.declared.cutter.Stop.TheVariants as stops
-use Rattle.mq_calls.specs.Words.{Part, Change, Plain, ReceiverData, record_size}
+use Rattle.mq_calls.specs.Words.{Part, Change, Plain, SenderData, ReceiverData, record_size, sender_or, sender_data, receiver_or, receiver_data}
 use Rattle.mq_sides.specs.Kept.{closed_need}
 use Rattle.mq_calls.specs.declared.agents.AgentStop.{AgentStop}
 use Rattle.mq_calls.specs.declared.state.SenderSide.{SenderSide}
@@ -15,7 +15,7 @@ use Rattle.mq_calls.specs.declared.agents.Note.TheVariants as notes
 use Rattle.mq_calls.specs.declared.deltas.Did.TheVariants as did
 use Rattle.mq_calls.specs.declared.records.LogRecord.TheVariants as records
 use Rattle.mq_spec_manager.specs.Agents.{harden_part}
-use Rattle.mq_log.specs.State.{Appended}
+use Rattle.mq_log.specs.State.{LogState, Appended}
 use Rattle.mq_log.specs.Force.{Stops}
 use Rattle.mq_core.specs.declared.parts.ChannelEnds.{ChannelEnds}
 use Rattle.mq_core.specs.Views.{PartsValue}
@@ -38,22 +38,41 @@ with_receivers sides e = record e { receivers = sides }
 abbrev pub IsWhole : List ℕ → LogRecord → Type 0
 IsWhole bytes r = (length bytes ≡ record_size r) × FitsRecord r
 
--- bytes were forced into the log, or their write was stopped; these are the ends of channels; nothing else has changed
+-- bytes were forced into a log, for which it may have taken room, or their write was stopped
+pub record IsLogged (bytes : List ℕ) (x : LogState) (result : Result (Unit {0}) Stop) (y : LogState) : Type 0 where
+  pub appended : Appended x bytes result y
+  pub calls : Stops x.armed result y.armed
+  pub room : OnOk result (x.room ≤ y.room + (5 + length bytes))
+  pub enough : OnOk result (x.reserved ≤ y.room)
+  pub later : x.faults ≤ y.faults
+  pub disk : IsErrOf result stops.Disk → Rose x.faults y.faults
+
+-- so of a manager's log; these are the ends of channels; nothing else has changed
 pub record IsWritten (bytes : List ℕ) (e : ChannelEnds) (x : PartsValue) (result : Result (Unit {0}) Stop) (y : PartsValue) : Type 0 where
   pub same : y ≡ record x { ends = e; log = y.log }
-  pub log : Appended x.log bytes result y.log
-  pub calls : Stops x.log.armed result y.log.armed
-  pub room : OnOk result (x.log.room ≤ y.log.room + (5 + length bytes))
-  pub enough : OnOk result (x.log.reserved ≤ y.log.room)
+  pub log : IsLogged bytes x.log result y.log
   pub ends : OnOk result (EndsReady e x.log.spare)
-  pub later : x.log.faults ≤ y.log.faults
-  pub disk : IsErrOf result stops.Disk → Rose x.log.faults y.log.faults
 
 -- its write was stopped, and that has taken the manager down; rows that are noted have taken their room
 pub record IsDowned (bytes : List ℕ) (write : StoppedWrite) (stop : Stop) (x z : PartsValue) : Type 0 where
   pub at : PartsValue
   pub is : IsWritten bytes (record x.ends { rows = at.ends.rows }) x (Err stop) at
   pub down : z ≡ downed write at
+
+-- they were not: there was no memory, or their write was stopped
+abbrev pub IsUnlogged : List ℕ → LogState → Unwritten → LogState → Type 0
+IsUnlogged bytes x unwritten.NoMemory y = (y ≡ record x { room = y.room }) × (x.room ≤ y.room)
+IsUnlogged bytes x (unwritten.Stopped stop) y = IsLogged bytes x (Err stop) y
+
+-- they were forced, and of the old sides these were made, over what stood; or they were not, and the sides are the old ones
+abbrev pub Forces : {S : Type 0} → List ℕ → Option S → List S → List S → LogState → Result (Option S) Unwritten → List S → LogState → Type 0
+Forces bytes before made old x (Ok back) new y = (back ≡ before) × (new ≡ made) × IsLogged bytes x (Ok tt) y
+Forces bytes before made old x (Err unwritten) new y = (new ≡ old) × IsUnlogged bytes x unwritten y
+
+-- a write that was stopped takes the manager down
+abbrev pub downed_if : StoppedWrite → Unwritten → PartsValue → PartsValue
+downed_if write unwritten.NoMemory x = x
+downed_if write (unwritten.Stopped stop) x = downed write x
 
 -- the record was forced, there was no memory, or its write was stopped
 abbrev pub Writes : List ℕ → ChannelEnds → StoppedWrite → PartsValue → Result (Unit {0}) Unwritten → PartsValue → Type 0
@@ -67,9 +86,9 @@ WritesOver before bytes e write x (Ok back) z = (back ≡ before) × IsWritten b
 WritesOver before bytes e write x (Err unwritten) z = Writes bytes e write x (Err unwritten) z
 
 -- there was no memory only where the log had no room for a record of so many bytes, or nothing stood for the channel
-abbrev pub Lacks : {T : Type 0} → Type 0 → ℕ → PartsValue → Result T Unwritten → Type 0
+abbrev pub Lacks : {T : Type 0} → Type 0 → ℕ → LogState → Result T Unwritten → Type 0
 Lacks absent n x (Ok value) = Unit {0}
-Lacks absent n x (Err unwritten.NoMemory) = (x.log.room < x.log.reserved + n) ⊎ absent
+Lacks absent n x (Err unwritten.NoMemory) = (x.room < x.reserved + n) ⊎ absent
 Lacks absent n x (Err (unwritten.Stopped stop)) = Unit {0}
 
 -- memory was not wanted
@@ -123,14 +142,34 @@ note_record channel (notes.Bound partner session last) = records.Bound channel p
 note_record channel (notes.Closed session) = records.Closed channel session
 note_record channel (notes.SeqSet end last) = records.SeqSet channel end last
 
--- it says this of the sender, of the receiver
+-- it changes this
 abbrev pub noted_change : List ℕ → Note → Change → Part
 noted_change channel note change = record { forced = Some (note_record channel note); changes = change ∷ []; delta = did.Hardened channel note ∷ [] }
 
-pub record IsSenderNote (channel : List ℕ) (note : Note) (side : SenderSide) (p : Plain) : Type 0 where
-  pub named : side.channel ≡ channel
-  pub part : harden_part channel note p ≡ noted_change channel note (SetSender channel side.hardened)
+-- what an end has hardened after a note of its session or its number
+abbrev pub sender_after : Note → SenderData → SenderData
+sender_after (notes.Session partner session) d = record d { partner = partner; session = session }
+sender_after (notes.Resolved unit commit operator) d = d
+sender_after (notes.Bound partner session last) d = d
+sender_after (notes.Closed session) d = d
+sender_after (notes.SeqSet end last) d = record d { last = last; force = true }
 
-pub record IsReceiverNote (channel : List ℕ) (note : Note) (side : ReceiverSide) (p : Plain) : Type 0 where
-  pub named : side.channel ≡ channel
-  pub part : harden_part channel note p ≡ noted_change channel note (SetReceiver channel side.hardened)
+abbrev pub receiver_after : Note → ReceiverData → ReceiverData
+receiver_after (notes.Session partner session) d = d
+receiver_after (notes.Resolved unit commit operator) d = d
+receiver_after (notes.Bound partner session last) d = record d { partner = partner; session = session; closed = false; last = last }
+receiver_after (notes.Closed session) d = record d { closed = true }
+receiver_after (notes.SeqSet end last) d = record d { last = last }
+
+abbrev pub noted_sender : List ℕ → Note → Plain → SenderSide
+noted_sender channel note p = record { channel = channel; hardened = sender_after note (sender_or (sender_data channel p)) }
+
+abbrev pub noted_receiver : List ℕ → Note → Plain → ReceiverSide
+noted_receiver channel note p = record { channel = channel; hardened = receiver_after note (receiver_or (receiver_data channel p)) }
+
+-- such a note is what the end of this channel hardens
+abbrev pub IsSenderNote : List ℕ → Note → Plain → Type 0
+IsSenderNote channel note p = harden_part channel note p ≡ noted_change channel note (SetSender channel (noted_sender channel note p).hardened)
+
+abbrev pub IsReceiverNote : List ℕ → Note → Plain → Type 0
+IsReceiverNote channel note p = harden_part channel note p ≡ noted_change channel note (SetReceiver channel (noted_receiver channel note p).hardened)

@@ -3,7 +3,7 @@ ghost use Rattle.std.specs.Prelude.{◌≡◌, ◌<◌, ◌≤◌, map, take, le
 ghost use Rattle.mq_calls.specs.Words.{MeetsOrWants, free_rows};
 ghost use Rattle.mq_spec_manager.specs.Words.{idents_of};
 ghost use Rattle.mq_spec_manager.specs.Agents.{IsUp, CanHold, hold_batch};
-ghost use Rattle.mq_unit.specs.Told.{told, told_all};
+ghost use Rattle.mq_get.specs.from_unit.Told.{told, told_all};
 ghost use Rattle.mq_core.specs.Views.{plain_of};
 ghost use Rattle.mq_agents.specs.Ends.{by_memory, held_did};
 ghost use Rattle.mq_agents.specs.Removing.{batch_held};
@@ -14,10 +14,10 @@ use mq_base::{ChName, Items, NoMemory, QName};
 use mq_calls::{Batch, Did};
 use mq_core::{Core, Parts};
 use mq_disk::Disk;
+use mq_get::below::Effects;
 use mq_message::{Holder, Ident};
 use mq_sides::{KeptBatch, set_side};
 use mq_sync::Unit;
-use mq_unit::Effects;
 
 fn tell_one_held(effects: &mut Effects, queue: &QName, ident: &Ident, by: &Holder)
     requires { 0 < effects.old.room }

@@ -3,7 +3,7 @@ ghost use Rattle.std.specs.Prelude.{◌≡◌, ◌+◌, ◌≤◌, ◌∷◌, []
 ghost use Rattle.mq_calls.specs.declared.deltas.Did.TheVariants as did;
 ghost use Rattle.mq_calls.specs.declared.deltas.Why.TheVariants as whys;
 ghost use Rattle.mq_core.specs.declared.parts.StoppedWrite.TheVariants as writes;
-ghost use Rattle.mq_unit.specs.Told.{told};
+ghost use Rattle.mq_get.specs.from_unit.Told.{told};
 ghost use Rattle.mq_calls.specs.declared.records.LogRecord.TheVariants as records;
 ghost use Rattle.mq_calls.specs.Words.{MeetsOrWants, stored};
 ghost use Rattle.mq_spec_manager.specs.Agents.{IsUp, HasFreeRow, row_with, discard};
@@ -18,10 +18,10 @@ use mq_base::{Items, NoMemory, QName};
 use mq_calls::{AgentStop, Did, Remove, Why};
 use mq_core::{Core, Parts, StoppedWrite};
 use mq_disk::{Disk, Stop};
+use mq_get::below::Effects;
 use mq_get::make_record_room;
 use mq_message::Ident;
 use mq_record::unit_front;
-use mq_unit::Effects;
 
 /// Whether the row of an ident lasts.
 fn lasts<D: Disk>(parts: &Parts<D>, queue: &QName, ident: &Ident) -> bool

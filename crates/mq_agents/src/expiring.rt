@@ -1,7 +1,7 @@
 //! A sender takes the expired rows off its queue.
 ghost use Rattle.std.specs.Prelude.{◌≡◌, ◌++◌, ◌∷◌, [], ◌*◌, ◌<◌, ◌≤◌, map, filter, length, IfOk, OnOk};
 ghost use Rattle.mq_queue.specs.Rows.{is_free};
-ghost use Rattle.mq_scan.specs.Scans.{met_of};
+ghost use Rattle.mq_get.specs.from_scan.Scans.{met_of};
 ghost use Rattle.mq_calls.specs.Words.{MeetsOrWants};
 ghost use Rattle.mq_spec_manager.specs.Agents.{IsUp, HasSeized, expire, expired_rows};
 ghost use Rattle.mq_core.specs.Views.{plain_of};
@@ -11,16 +11,15 @@ ghost use Rattle.mq_core.specs.Values.{manager_of, WritesLog};
 
 use crate::hardening::agent_stop;
 use crate::reading::queue_of_sender;
-use crate::walking::is_past;
 use mq_base::{ChName, Items, NoMemory, QName};
 use mq_calls::{AgentStop, Halt};
 use mq_codes::Reason;
 use mq_core::{Core, Parts};
 use mq_disk::{Disk, Stop};
+use mq_get::below::Met;
 use mq_get::drop_expired;
-use mq_place::LocalRows;
+use mq_place::{LocalRows, is_past};
 use mq_queue::{Queue, Row};
-use mq_scan::Met;
 use std::alloc::Global;
 
 /// The most rows whose record is shorter than 2^32 bytes.

@@ -1,7 +1,7 @@
 //! What channel ends harden beside their messages.
 ghost use Rattle.std.specs.Prelude.{◌≡◌, ◌+◌, ◌<◌, ◌≤◌, ◌^◌, [], true, find, length, option_copied, None, IfOk, OnOk};
 ghost use Rattle.std.specs.Str.{bytes_eq};
-ghost use Rattle.mq_calls.specs.Words.{MeetsOrWants, MeetsInRoom, receiver_in, set_sender, set_receiver, sender_or, sender_data, receiver_or, receiver_data};
+ghost use Rattle.mq_calls.specs.Words.{set_named, MeetsOrWants, MeetsInRoom, receiver_in, set_sender, set_receiver, sender_or, sender_data, receiver_data};
 ghost use Rattle.mq_spec_manager.specs.Agents.{IsUp, CanHarden, harden};
 ghost use Rattle.mq_calls.specs.declared.agents.Note.TheVariants as notes;
 ghost use Rattle.mq_sync.specs.declared.data.End.TheVariants as sync_ends;
@@ -14,19 +14,21 @@ ghost use Rattle.mq_core.specs.Ties.{EndsReady};
 ghost use Rattle.mq_core.specs.Forced.{HasMoreRoom, downed};
 ghost use Rattle.mq_core.specs.Views.{plain_of};
 ghost use Rattle.mq_agents.specs.Ends.{by_agent, stopped_agent};
-ghost use Rattle.mq_agents.specs.Written.{IsWhole, Lacks, Writes, WritesOver, WantsNone, drawn, is_live, live_need, agent_of, stop_of, with_senders, with_receivers, note_record, IsSenderNote, IsReceiverNote};
+ghost use Rattle.mq_agents.specs.Written.{IsWhole, Forces, Lacks, Writes, WritesOver, downed_if, WantsNone, drawn, is_live, live_need, agent_of, stop_of, with_senders, with_receivers, note_record, IsSenderNote, IsReceiverNote, noted_sender, noted_receiver};
 ghost use Rattle.mq_core.specs.Values.{manager_of, WritesLog};
 
-use mq_base::{ChName, NoMemory, QName};
+use mq_base::{ChName, Items, NoMemory, QName};
 use mq_calls::{AgentStop, Did, Note, ReceiverSide, SenderSide};
 use mq_core::{Core, Mode, Parts, StoppedWrite};
 use mq_disk::{Disk, Stop};
+use mq_get::below::Effects;
+use mq_log::Log;
 use mq_record::{bound_bytes, closed_bytes, seq_set_bytes, session_bytes};
 use mq_sides::{
-    KeptReceiver, KeptSender, receiver_data, receiver_of, sender_data, swap_side, undo_side,
+    KeptReceiver, KeptSender, OfChannel, receiver_data, receiver_of, sender_data, swap_side,
+    undo_side,
 };
 use mq_sync::{End, ReceiverData, SenderData};
-use mq_unit::Effects;
 
 /// What the log takes of a session that is closed, in bytes.
 const CLOSING: u64 = 34;
@@ -83,6 +85,46 @@ pub fn agent_of(unwritten: Unwritten) -> AgentStop
     }
 }
 
+/// Forces a record, with what it says of a channel's end; what stood for its channel is handed back. Where its write was stopped nothing of
+/// that stands. It takes no memory where the log has room, and something stands for the channel.
+pub(crate) fn force_side<T: OfChannel + Drop, D: Disk>(
+    items: &mut Items<T>,
+    log: &mut Log<D>,
+    bytes: &[u8],
+    side: T,
+) -> Result<Option<T>, Unwritten>
+    requires live { log.old.live ≡ true }
+    requires small { length bytes.now < 2 ^ 32 }
+    ensures forced { Forces bytes.now (standing T.channel_of (T.channel_of side) items.old) (set_named T.channel_of side items.old) items.old log.old result items.new log.new }
+    ensures lacks { Lacks (AreByName T.channel_of items.old → find (λ (x : T). bytes_eq (T.channel_of side) (T.channel_of x)) items.old ≡ None) (5 + length bytes.now) log.old result }
+{
+    match log.room(5 + bytes.len() as u64) {
+        Ok(()) => {}
+        Err(NoMemory) => return Err(Unwritten::NoMemory),
+    }
+    let undo = match swap_side(items, side) {
+        Ok(undo) => undo,
+        Err(NoMemory) => return Err(Unwritten::NoMemory),
+    };
+    match log.append_forced(bytes) {
+        Ok(()) => Ok(undo.before),
+        Err(stop) => {
+            undo_side(items, undo);
+            Err(Unwritten::Stopped(stop))
+        }
+    }
+}
+
+/// Where the write of a record was stopped, the manager goes down. It takes no memory.
+pub(crate) fn go_down_if<D: Disk>(parts: &mut Parts<D>, unwritten: Unwritten, write: StoppedWrite)
+    ensures { parts.new ≡ downed_if write unwritten parts.old }
+{
+    match unwritten {
+        Unwritten::NoMemory => {}
+        Unwritten::Stopped(_) => go_down(parts, write),
+    }
+}
+
 /// Forces a record, with what it says of a sender; where its write was stopped nothing of that stands, and the manager is down.
 fn write_sender<D: Disk>(
     parts: &mut Parts<D>,
@@ -96,26 +138,15 @@ fn write_sender<D: Disk>(
     requires ends { EndsReady (with_senders (set_sender side parts.old.ends.senders) parts.old.ends) parts.old.log.spare }
     ensures { Writes bytes.now (with_senders (set_sender side parts.old.ends.senders) parts.old.ends) (writes.Hardened channel.now note.now) parts.old result parts.new }
 {
-    match parts.log.room(5 + bytes.len() as u64) {
-        Ok(()) => {}
-        Err(NoMemory) => return Err(Unwritten::NoMemory),
-    }
-    let undo = match swap_side(&mut parts.ends.senders, side) {
-        Ok(undo) => undo,
-        Err(NoMemory) => return Err(Unwritten::NoMemory),
-    };
-    match parts.log.append_forced(bytes) {
-        Ok(()) => {}
-        Err(stop) => {
-            undo_side(&mut parts.ends.senders, undo);
-            go_down(
-                parts,
-                StoppedWrite::Hardened {
-                    channel: *channel,
-                    note: *note,
-                },
-            );
-            return Err(Unwritten::Stopped(stop));
+    match force_side(&mut parts.ends.senders, &mut parts.log, bytes, side) {
+        Ok(_) => {}
+        Err(unwritten) => {
+            let write = StoppedWrite::Hardened {
+                channel: *channel,
+                note: *note,
+            };
+            go_down_if(parts, unwritten, write);
+            return Err(unwritten);
         }
     }
     Ok(())
@@ -134,31 +165,20 @@ fn write_receiver<D: Disk>(
     requires small { length bytes.now < 2 ^ 32 }
     requires ends { EndsReady (with_receivers (set_receiver side parts.old.ends.receivers) parts.old.ends) parts.old.log.spare }
     ensures written { WritesOver (standing (λ (r : Receiver). r.channel) side.channel parts.old.ends.receivers) bytes.now (with_receivers (set_receiver side parts.old.ends.receivers) parts.old.ends) (writes.Hardened channel.now note.now) parts.old result parts.new }
-    ensures lacks { Lacks (AreByName (λ (r : Receiver). r.channel) parts.old.ends.receivers → find (λ (r : Receiver). bytes_eq side.channel r.channel) parts.old.ends.receivers ≡ None) (5 + length bytes.now) parts.old result }
+    ensures lacks { Lacks (AreByName (λ (r : Receiver). r.channel) parts.old.ends.receivers → find (λ (r : Receiver). bytes_eq side.channel r.channel) parts.old.ends.receivers ≡ None) (5 + length bytes.now) parts.old.log result }
 {
-    match parts.log.room(5 + bytes.len() as u64) {
-        Ok(()) => {}
-        Err(NoMemory) => return Err(Unwritten::NoMemory),
-    }
-    let undo = match swap_side(&mut parts.ends.receivers, side) {
-        Ok(undo) => undo,
-        Err(NoMemory) => return Err(Unwritten::NoMemory),
-    };
-    match parts.log.append_forced(bytes) {
-        Ok(()) => {}
-        Err(stop) => {
-            undo_side(&mut parts.ends.receivers, undo);
-            go_down(
-                parts,
-                StoppedWrite::Hardened {
-                    channel: *channel,
-                    note: *note,
-                },
-            );
-            return Err(Unwritten::Stopped(stop));
+    let before = match force_side(&mut parts.ends.receivers, &mut parts.log, bytes, side) {
+        Ok(before) => before,
+        Err(unwritten) => {
+            let write = StoppedWrite::Hardened {
+                channel: *channel,
+                note: *note,
+            };
+            go_down_if(parts, unwritten, write);
+            return Err(unwritten);
         }
-    }
-    Ok(undo.before)
+    };
+    Ok(before)
 }
 
 /// What a sender has hardened, with the room that it needs.
@@ -176,14 +196,6 @@ fn kept_receiver<D: Disk>(parts: &Parts<D>, side: ReceiverSide) -> Result<KeptRe
     ensures { IfOk result (λ k. k ≡ side) }
 {
     KeptReceiver::new(parts.alloc, side)
-}
-
-/// What a receiver has hardened whose session is closed. It takes no memory.
-fn kept_closed<D: Disk>(parts: &Parts<D>, side: ReceiverSide) -> KeptReceiver
-    requires { side.hardened.closed ≡ true }
-    ensures { result ≡ side }
-{
-    KeptReceiver::of_closed(parts.alloc, side)
 }
 
 /// Gives a channel its place among the receivers that may be bound.
@@ -292,20 +304,104 @@ fn room_of<D: Disk>(parts: &Parts<D>, before: Option<KeptReceiver>) -> Effects
     }
 }
 
-/// A sender hardens a record of these bytes, and has this data from then on.
+/// What the sender of a channel has hardened, to be changed.
+pub(crate) fn sender_now<D: Disk>(
+    parts: &Parts<D>,
+    channel: &ChName,
+) -> Result<SenderData, NoMemory>
+    ensures { IfOk result (λ d. d ≡ sender_or (sender_data channel.now (plain_of parts.now))) }
+{
+    sender_data(parts.alloc, &parts.ends.senders, channel)
+}
+
+/// What the sender of a channel has hardened after a note of its session or its number; other notes leave it as it is.
+fn noted_sender<D: Disk>(
+    parts: &Parts<D>,
+    channel: &ChName,
+    note: &Note,
+) -> Result<SenderSide, NoMemory>
+    ensures { IfOk result (λ s. s ≡ noted_sender channel.now note.now (plain_of parts.now)) }
+{
+    let old = match sender_now(parts, channel) {
+        Ok(old) => old,
+        Err(NoMemory) => return Err(NoMemory),
+    };
+    let channel = *channel;
+    match note {
+        Note::Session { partner, session } => Ok(SenderSide {
+            channel,
+            hardened: SenderData {
+                partner: *partner,
+                session: *session,
+                ..old
+            },
+        }),
+        Note::SeqSet { last, .. } => Ok(SenderSide {
+            channel,
+            hardened: SenderData {
+                last: *last,
+                force: true,
+                ..old
+            },
+        }),
+        Note::Resolved { .. } | Note::Bound { .. } | Note::Closed { .. } => Ok(SenderSide {
+            channel,
+            hardened: old,
+        }),
+    }
+}
+
+/// What the receiver of a channel has hardened after such a note. It takes no memory.
+fn noted_receiver<D: Disk>(parts: &Parts<D>, channel: &ChName, note: &Note) -> ReceiverSide
+    ensures { result ≡ noted_receiver channel.now note.now (plain_of parts.now) }
+{
+    let old = receiver_data(&parts.ends.receivers, channel);
+    let channel = *channel;
+    match note {
+        Note::Bound {
+            partner,
+            session,
+            last,
+        } => ReceiverSide {
+            channel,
+            hardened: ReceiverData {
+                partner: *partner,
+                session: *session,
+                closed: false,
+                last: *last,
+                ..old
+            },
+        },
+        Note::Closed { .. } => ReceiverSide {
+            channel,
+            hardened: ReceiverData {
+                closed: true,
+                ..old
+            },
+        },
+        Note::SeqSet { last, .. } => ReceiverSide {
+            channel,
+            hardened: ReceiverData { last: *last, ..old },
+        },
+        Note::Session { .. } | Note::Resolved { .. } => ReceiverSide {
+            channel,
+            hardened: old,
+        },
+    }
+}
+
+/// A sender hardens a note of its own, in a record of these bytes.
 fn harden_sender<D: Disk>(
     core: &mut Core<D>,
     channel: &ChName,
     note: &Note,
     bytes: &[u8],
-    side: SenderSide,
 ) -> Result<(), AgentStop>
     requires up { IsUp core.old.plain }
     requires bytes { bytes.now ≡ record_bytes (note_record channel.now note.now) }
     requires size { IsWhole bytes.now (note_record channel.now note.now) }
     requires small { length bytes.now < 2 ^ 32 }
-    requires side { IsSenderNote channel.now note.now side core.old.plain }
-    requires kept { side.hardened.in_doubt ≡ (sender_or (sender_data channel.now core.old.plain)).in_doubt }
+    requires sender { IsSenderNote channel.now note.now core.old.plain }
     ensures meets { MeetsOrWants (manager_of core.old) (harden channel.now note.now core.old.plain) (by_agent result) (manager_of core.new) }
     ensures told { WritesLog core.old (harden channel.now note.now core.old.plain) (by_agent result) core.new }
 {
@@ -314,6 +410,10 @@ fn harden_sender<D: Disk>(
         Ok(()) => {}
         Err(NoMemory) => return Err(AgentStop::NoMemory),
     }
+    let side = match noted_sender(&core.parts, channel, note) {
+        Ok(side) => side,
+        Err(NoMemory) => return Err(AgentStop::NoMemory),
+    };
     let kept = match kept_sender(&core.parts, side) {
         Ok(kept) => kept,
         Err(NoMemory) => return Err(AgentStop::NoMemory),
@@ -334,19 +434,18 @@ fn harden_sender<D: Disk>(
     Ok(())
 }
 
-/// A receiver hardens a record of these bytes, and has this data from then on.
+/// A receiver hardens a note of its own, in a record of these bytes.
 fn harden_receiver<D: Disk>(
     core: &mut Core<D>,
     channel: &ChName,
     note: &Note,
     bytes: &[u8],
-    side: ReceiverSide,
 ) -> Result<(), AgentStop>
     requires up { IsUp core.old.plain }
     requires bytes { bytes.now ≡ record_bytes (note_record channel.now note.now) }
     requires size { IsWhole bytes.now (note_record channel.now note.now) }
     requires small { length bytes.now < 2 ^ 32 }
-    requires side { IsReceiverNote channel.now note.now side core.old.plain }
+    requires receiver { IsReceiverNote channel.now note.now core.old.plain }
     ensures meets { MeetsOrWants (manager_of core.old) (harden channel.now note.now core.old.plain) (by_agent result) (manager_of core.new) }
     ensures told { WritesLog core.old (harden channel.now note.now core.old.plain) (by_agent result) core.new }
 {
@@ -355,6 +454,7 @@ fn harden_receiver<D: Disk>(
         Ok(()) => {}
         Err(NoMemory) => return Err(AgentStop::NoMemory),
     }
+    let side = noted_receiver(&core.parts, channel, note);
     let closed = side.hardened.closed;
     let kept = match kept_receiver(&core.parts, side) {
         Ok(kept) => kept,
@@ -394,22 +494,22 @@ fn close<D: Disk>(
     channel: &ChName,
     note: &Note,
     bytes: &[u8],
-    side: ReceiverSide,
 ) -> Result<(), AgentStop>
     requires up { IsUp core.old.plain }
     requires bytes { bytes.now ≡ record_bytes (note_record channel.now note.now) }
     requires size { IsWhole bytes.now (note_record channel.now note.now) }
     requires small { length bytes.now ≤ 29 }
-    requires side { IsReceiverNote channel.now note.now side core.old.plain }
-    requires closed { side.hardened.closed ≡ true }
+    requires receiver { IsReceiverNote channel.now note.now core.old.plain }
+    requires closed { (noted_receiver channel.now note.now core.old.plain).hardened.closed ≡ true }
     requires live { is_live (receiver_data channel.now core.old.plain) ≡ true }
     ensures wants { WantsNone result }
     ensures meets { MeetsOrWants (manager_of core.old) (harden channel.now note.now core.old.plain) (by_agent result) (manager_of core.new) }
     ensures told { WritesLog core.old (harden channel.now note.now core.old.plain) (by_agent result) core.new }
 {
     core.begin_call();
+    let side = noted_receiver(&core.parts, channel, note);
     draw(&mut core.parts, CLOSING);
-    let kept = kept_closed(&core.parts, side);
+    let kept = KeptReceiver::of_closed(core.parts.alloc, side);
     let before = match write_receiver(&mut core.parts, channel, note, bytes, kept) {
         Ok(before) => before,
         Err(unwritten) => {
@@ -427,23 +527,6 @@ fn close<D: Disk>(
     Ok(())
 }
 
-/// What the sender of a channel has hardened, to be changed.
-pub(crate) fn sender_now<D: Disk>(
-    parts: &Parts<D>,
-    channel: &ChName,
-) -> Result<SenderData, NoMemory>
-    ensures { IfOk result (λ d. d ≡ sender_or (sender_data channel.now (plain_of parts.now))) }
-{
-    sender_data(parts.alloc, &parts.ends.senders, channel)
-}
-
-/// What the receiver of a channel has hardened, to be changed.
-fn receiver_now<D: Disk>(parts: &Parts<D>, channel: &ChName) -> ReceiverData
-    ensures { result ≡ receiver_or (receiver_data channel.now (plain_of parts.now)) }
-{
-    receiver_data(&parts.ends.receivers, channel)
-}
-
 /// A sender hardens the next session with its partner.
 ///
 /// # Errors
@@ -459,33 +542,15 @@ pub fn harden_session<D: Disk>(
     ensures meets { MeetsOrWants (manager_of core.old) (harden channel.now (notes.Session partner.now session) core.old.plain) (by_agent result) (manager_of core.new) }
     ensures told { WritesLog core.old (harden channel.now (notes.Session partner.now session) core.old.plain) (by_agent result) core.new }
 {
-    let old = match sender_now(&core.parts, channel) {
-        Ok(old) => old,
-        Err(NoMemory) => {
-            core.begin_call();
-            return Err(AgentStop::NoMemory);
-        }
-    };
     let note = Note::Session {
         partner: *partner,
         session,
-    };
-    let side = SenderSide {
-        channel: *channel,
-        hardened: SenderData {
-            partner: *partner,
-            session,
-            last: old.last,
-            force: old.force,
-            in_doubt: old.in_doubt,
-        },
     };
     harden_sender(
         core,
         channel,
         &note,
         &session_bytes(channel, partner, session),
-        side,
     )
 }
 
@@ -503,34 +568,9 @@ pub fn harden_last_sent<D: Disk>(
     ensures meets { MeetsOrWants (manager_of core.old) (harden channel.now (notes.SeqSet sync_ends.Sender last) core.old.plain) (by_agent result) (manager_of core.new) }
     ensures told { WritesLog core.old (harden channel.now (notes.SeqSet sync_ends.Sender last) core.old.plain) (by_agent result) core.new }
 {
-    let old = match sender_now(&core.parts, channel) {
-        Ok(old) => old,
-        Err(NoMemory) => {
-            core.begin_call();
-            return Err(AgentStop::NoMemory);
-        }
-    };
-    let note = Note::SeqSet {
-        end: End::Sender,
-        last,
-    };
-    let side = SenderSide {
-        channel: *channel,
-        hardened: SenderData {
-            partner: old.partner,
-            session: old.session,
-            last,
-            force: true,
-            in_doubt: old.in_doubt,
-        },
-    };
-    harden_sender(
-        core,
-        channel,
-        &note,
-        &seq_set_bytes(channel, End::Sender, last),
-        side,
-    )
+    let end = End::Sender;
+    let note = Note::SeqSet { end, last };
+    harden_sender(core, channel, &note, &seq_set_bytes(channel, end, last))
 }
 
 /// A receiver hardens that it is bound in a session, with the last sequence number.
@@ -549,28 +589,16 @@ pub fn harden_bound<D: Disk>(
     ensures meets { MeetsOrWants (manager_of core.old) (harden channel.now (notes.Bound partner.now session last) core.old.plain) (by_agent result) (manager_of core.new) }
     ensures told { WritesLog core.old (harden channel.now (notes.Bound partner.now session last) core.old.plain) (by_agent result) core.new }
 {
-    let old = receiver_now(&core.parts, channel);
     let note = Note::Bound {
         partner: *partner,
         session,
         last,
-    };
-    let side = ReceiverSide {
-        channel: *channel,
-        hardened: ReceiverData {
-            partner: *partner,
-            session,
-            closed: false,
-            unit: old.unit,
-            last,
-        },
     };
     harden_receiver(
         core,
         channel,
         &note,
         &bound_bytes(channel, partner, session, last),
-        side,
     )
 }
 
@@ -589,23 +617,12 @@ pub fn harden_closed<D: Disk>(
     ensures told { WritesLog core.old (harden channel.now (notes.Closed session) core.old.plain) (by_agent result) core.new }
     ensures room { CanHarden channel.now (notes.Closed session) core.old.plain → MeetsInRoom (manager_of core.old) (harden channel.now (notes.Closed session) core.old.plain) (by_agent result) (manager_of core.new) }
 {
-    let old = receiver_now(&core.parts, channel);
     let note = Note::Closed { session };
-    let side = ReceiverSide {
-        channel: *channel,
-        hardened: ReceiverData {
-            partner: old.partner,
-            session: old.session,
-            closed: true,
-            unit: old.unit,
-            last: old.last,
-        },
-    };
     let bytes = closed_bytes(channel, session);
     if has_live(&core.parts, channel) {
-        return close(core, channel, &note, &bytes, side);
+        return close(core, channel, &note, &bytes);
     }
-    harden_receiver(core, channel, &note, &bytes, side)
+    harden_receiver(core, channel, &note, &bytes)
 }
 
 /// An operator sets the last sequence number of a receiver.
@@ -622,26 +639,7 @@ pub fn harden_last_received<D: Disk>(
     ensures meets { MeetsOrWants (manager_of core.old) (harden channel.now (notes.SeqSet sync_ends.Receiver last) core.old.plain) (by_agent result) (manager_of core.new) }
     ensures told { WritesLog core.old (harden channel.now (notes.SeqSet sync_ends.Receiver last) core.old.plain) (by_agent result) core.new }
 {
-    let old = receiver_now(&core.parts, channel);
-    let note = Note::SeqSet {
-        end: End::Receiver,
-        last,
-    };
-    let side = ReceiverSide {
-        channel: *channel,
-        hardened: ReceiverData {
-            partner: old.partner,
-            session: old.session,
-            closed: old.closed,
-            unit: old.unit,
-            last,
-        },
-    };
-    harden_receiver(
-        core,
-        channel,
-        &note,
-        &seq_set_bytes(channel, End::Receiver, last),
-        side,
-    )
+    let end = End::Receiver;
+    let note = Note::SeqSet { end, last };
+    harden_receiver(core, channel, &note, &seq_set_bytes(channel, end, last))
 }

@@ -2,6 +2,7 @@
 #![tactic(auto)]
 
 mod batches;
+pub mod below;
 mod discarding;
 mod expiring;
 mod hardening;

@@ -16,7 +16,9 @@ ghost use Rattle.mq_agents.specs.Written.{Writes, with_senders};
 ghost use Rattle.mq_agents.specs.Removing.{Doubts, ident_put, IsDoubtOf, IsFilled, doubt_record, without_one};
 ghost use Rattle.mq_core.specs.Values.{manager_of, WritesLog};
 
-use crate::hardening::{Unwritten, agent_of, aside_log, go_down, kept_sender, sender_now, stop_of};
+use crate::hardening::{
+    Unwritten, agent_of, aside_log, force_side, go_down_if, kept_sender, sender_now, stop_of,
+};
 use mq_base::{ChName, Items, NoMemory};
 use mq_calls::{AgentStop, Batch, Did, PrepareFault, SenderSide};
 use mq_core::{Core, Parts, StoppedWrite};
@@ -24,7 +26,7 @@ use mq_disk::Disk;
 use mq_get::make_record_room;
 use mq_message::Ident;
 use mq_record::{Buffer, prepared_front};
-use mq_sides::{KeptSender, batch_of, drop_side, swap_side, undo_side};
+use mq_sides::{KeptSender, batch_of, drop_side};
 use mq_sync::{InDoubt, SenderData};
 
 /// The most idents whose record is shorter than 2^32 bytes.
@@ -118,26 +120,23 @@ fn write_doubt<D: Disk>(
 ) -> Result<(), Unwritten>
     requires live { parts.old.log.live ≡ true }
     requires small { length parts.old.body.bytes < 2 ^ 32 }
-    requires room { parts.old.log.reserved + (5 + length parts.old.body.bytes) ≤ parts.old.log.room }
     requires ends { EndsReady (with_senders (set_sender side parts.old.ends.senders) parts.old.ends) parts.old.log.spare }
     ensures { Writes parts.old.body.bytes (with_senders (set_sender side parts.old.ends.senders) parts.old.ends) (writes.Prepared channel.now last) parts.old result parts.new }
 {
-    let undo = match swap_side(&mut parts.ends.senders, side) {
-        Ok(undo) => undo,
-        Err(NoMemory) => return Err(Unwritten::NoMemory),
-    };
-    match parts.log.append_forced(parts.body.as_slice()) {
-        Ok(()) => {}
-        Err(stop) => {
-            undo_side(&mut parts.ends.senders, undo);
-            go_down(
-                parts,
-                StoppedWrite::Prepared {
-                    channel: *channel,
-                    last,
-                },
-            );
-            return Err(Unwritten::Stopped(stop));
+    match force_side(
+        &mut parts.ends.senders,
+        &mut parts.log,
+        parts.body.as_slice(),
+        side,
+    ) {
+        Ok(_) => {}
+        Err(unwritten) => {
+            let write = StoppedWrite::Prepared {
+                channel: *channel,
+                last,
+            };
+            go_down_if(parts, unwritten, write);
+            return Err(unwritten);
         }
     }
     Ok(())

@@ -2,7 +2,7 @@
 ghost use Rattle.std.specs.Prelude.{◌≡◌, ◌<◌, ◌≤◌, map, length, Ok};
 ghost use Rattle.mq_calls.specs.Words.{MeetsInRoom, batch_of};
 ghost use Rattle.mq_spec_manager.specs.Agents.{IsUp, HasBatch, release_batch};
-ghost use Rattle.mq_unit.specs.Told.{told, told_all};
+ghost use Rattle.mq_get.specs.from_unit.Told.{told, told_all};
 ghost use Rattle.mq_core.specs.Views.{plain_of};
 ghost use Rattle.mq_agents.specs.Releasing.{batch_freed, released_did};
 ghost use Rattle.mq_core.specs.Values.{manager_of, WritesLog};
@@ -11,9 +11,9 @@ use mq_base::{ChName, QName};
 use mq_calls::Did;
 use mq_core::{Core, Parts};
 use mq_disk::Disk;
+use mq_get::below::Effects;
 use mq_message::{Holder, Ident};
 use mq_sides::{KeptBatch, take_side};
-use mq_unit::Effects;
 
 fn tell_one_released(effects: &mut Effects, queue: &QName, ident: &Ident)
     requires { 0 < effects.old.room }

@@ -13,7 +13,7 @@ ghost use Rattle.mq_sides.specs.Places.{AreByName, standing};
 ghost use Rattle.mq_calls.specs.declared.agents.Note.TheVariants as notes;
 ghost use Rattle.mq_calls.specs.declared.records.LogRecord.TheVariants as records;
 ghost use Rattle.mq_record.specs.Records.{record_bytes};
-ghost use Rattle.mq_unit.specs.Told.{told, told_all};
+ghost use Rattle.mq_get.specs.from_unit.Told.{told, told_all};
 ghost use Rattle.mq_core.specs.declared.parts.StoppedWrite.TheVariants as writes;
 ghost use Rattle.mq_calls.specs.Recovery.{listed};
 ghost use Rattle.mq_calls.specs.declared.state.SenderSide.{SenderSide as Sender};
@@ -24,19 +24,19 @@ ghost use Rattle.mq_agents.specs.Written.{IsWhole, Lacks, WantsNone, WritesOver,
 ghost use Rattle.mq_agents.specs.Settling.{AreLone, IsShortOf, doubt_before, each_settled, freed_room, none_named, row_settled, rows_settled, with_named};
 ghost use Rattle.mq_core.specs.Values.{manager_of, WritesLog};
 
-use crate::hardening::{Unwritten, agent_of, draw, go_down, stop_of};
+use crate::hardening::{Unwritten, agent_of, draw, force_side, go_down, stop_of};
 use crate::preparing::SETTLING;
 use crate::walking::first_held;
 use mq_base::{ChName, NoMemory, QName};
 use mq_calls::{AgentStop, Did, Note, Remove, SenderSide, Why};
 use mq_core::{Core, Parts, StoppedWrite};
 use mq_disk::Disk;
+use mq_get::below::Effects;
 use mq_message::Holder;
 use mq_place::RowRoom;
 use mq_record::resolved_bytes;
-use mq_sides::{KeptSender, sender_of, swap_side, undo_side};
+use mq_sides::{KeptSender, sender_of};
 use mq_sync::{InDoubt, SenderData, Unit};
-use mq_unit::Effects;
 
 /// What a sender has hardened once its unit in doubt is settled: a commit takes its last number over.
 fn settled_data(old: &SenderData, commit: bool) -> SenderData
@@ -301,20 +301,12 @@ fn write_settled<D: Disk>(
     requires small { length bytes.now < 2 ^ 32 }
     requires ends { EndsReady (with_senders (set_sender side parts.old.ends.senders) parts.old.ends) parts.old.log.spare }
     ensures written { WritesOver (standing (λ (s : Sender). s.channel) side.channel parts.old.ends.senders) bytes.now (with_senders (set_sender side parts.old.ends.senders) parts.old.ends) (writes.Settled channel.now unit.now commit operator parts.old.ends.rows.rows) parts.old result parts.new }
-    ensures lacks { Lacks (AreByName (λ (s : Sender). s.channel) parts.old.ends.senders → find (λ (s : Sender). bytes_eq side.channel s.channel) parts.old.ends.senders ≡ None) (5 + length bytes.now) parts.old result }
+    ensures lacks { Lacks (AreByName (λ (s : Sender). s.channel) parts.old.ends.senders → find (λ (s : Sender). bytes_eq side.channel s.channel) parts.old.ends.senders ≡ None) (5 + length bytes.now) parts.old.log result }
 {
-    match parts.log.room(5 + bytes.len() as u64) {
-        Ok(()) => {}
-        Err(NoMemory) => return Err(Unwritten::NoMemory),
-    }
-    let undo = match swap_side(&mut parts.ends.senders, side) {
-        Ok(undo) => undo,
-        Err(NoMemory) => return Err(Unwritten::NoMemory),
-    };
-    match parts.log.append_forced(bytes) {
-        Ok(()) => {}
-        Err(stop) => {
-            undo_side(&mut parts.ends.senders, undo);
+    let before = match force_side(&mut parts.ends.senders, &mut parts.log, bytes, side) {
+        Ok(before) => before,
+        Err(Unwritten::NoMemory) => return Err(Unwritten::NoMemory),
+        Err(Unwritten::Stopped(stop)) => {
             let rows = take_rows(parts);
             go_down(
                 parts,
@@ -328,8 +320,8 @@ fn write_settled<D: Disk>(
             );
             return Err(Unwritten::Stopped(stop));
         }
-    }
-    Ok(undo.before)
+    };
+    Ok(before)
 }
 
 /// A row goes, or is free again at its place, with no backout counted. It takes no memory.

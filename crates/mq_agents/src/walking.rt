@@ -11,7 +11,7 @@ ghost use Rattle.mq_agents.specs.Ends.{is_free_past};
 use mq_base::{ChName, NoMemory};
 use mq_calls::Remove;
 use mq_message::Holder;
-use mq_place::{LocalRows, RowRoom};
+use mq_place::{LocalRows, RowRoom, is_past};
 use mq_queue::{Queue, Row};
 
 /// Whether a unit, or the batch of another channel, holds a row.
@@ -22,16 +22,6 @@ fn is_by_other(channel: &ChName, by: &Option<Holder>) -> bool
         None => false,
         Some(Holder::Unit(_)) => true,
         Some(Holder::Batch(other)) => !(*channel == *other),
-    }
-}
-
-/// Whether the deadline is there and has come.
-pub(crate) fn is_past(moment: u64, deadline: Option<u64>) -> bool
-    ensures { result ≡ is_past moment deadline }
-{
-    match deadline {
-        None => false,
-        Some(deadline) => deadline <= moment,
     }
 }
 

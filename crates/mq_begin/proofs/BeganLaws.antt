@@ -16,8 +16,8 @@ use Rattle.mq_disk.specs.declared.shelf.Side.TheVariants as sides
 use Rattle.mq_disk.specs.declared.shelf.TakeFault.{TakeFault}
 use Rattle.mq_disk.specs.declared.shelf.TakeFault.TheVariants as takes
 use Rattle.mq_calls.specs.State.{Given}
-use Rattle.mq_core.specs.Values.{CoreValue}
-use Rattle.mq_restart.specs.Begun.{HasBegun, HasNotBegun, given_by}
+use Rattle.mq_manager.specs.from_core.Values.{CoreValue}
+use Rattle.mq_manager.specs.from_restart.Begun.{HasBegun, HasNotBegun, given_by}
 use Rattle.mq_begin.specs.declared.faults.NetFault.{NetFault}
 use Rattle.mq_begin.specs.declared.faults.NetFault.TheVariants as faults
 use Rattle.mq_begin.specs.Begun.{AllBegan, BeginsOn, NotBegan, Refuses, RefusesAt, given_at, moment_or, net_fault, taken_fault}

@@ -7,8 +7,8 @@ use Rattle.mq_disk.specs.declared.shelf.TakeFault.{TakeFault}
 use Rattle.mq_disk.specs.declared.shelf.TakeFault.TheVariants as takes
 use Rattle.mq_history.specs.declared.scenario.ManagerLine.{ManagerLine}
 use Rattle.mq_calls.specs.State.{Given}
-use Rattle.mq_core.specs.Values.{CoreValue}
-use Rattle.mq_restart.specs.Begun.{given_by, HasBegun, IsBadOf}
+use Rattle.mq_manager.specs.from_core.Values.{CoreValue}
+use Rattle.mq_manager.specs.from_restart.Begun.{given_by, HasBegun, IsBadOf}
 use Rattle.mq_begin.specs.declared.faults.NetFault.{NetFault}
 use Rattle.mq_begin.specs.declared.faults.NetFault.TheVariants as faults
 

@@ -7,10 +7,10 @@ ghost use Rattle.mq_begin.specs.Begun.{AllBegan, NotBegan, moment_or};
 
 use crate::faults::{Begun, NetFault, NoNet};
 use crate::one::{Refused, begin_one};
-use mq_core::{Core, Parts};
 use mq_disk::{Cutter, Disk, Shelf};
 use mq_history::Scenario;
 use mq_manager::Manager;
+use mq_manager::below::{Core, Parts};
 use std::alloc::Global;
 
 /// The moment with which the managers begin: that of the scenario, if it has one, or that of the start, which is taken as

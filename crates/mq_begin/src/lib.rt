@@ -2,6 +2,7 @@
 #![tactic(auto)]
 
 mod beginning;
+pub mod below;
 mod faults;
 mod one;
 

@@ -1,6 +1,6 @@
 -- What happens to the two directions in one thread, each seen with its count.
 use Rattle.std.specs.Prelude.{◌≡◌, ◌⊎◌, ℕ, ◌≤◌, List, [], ◌++◌, length}
-use Rattle.mq_base.specs.Outside.{Rose}
+use Rattle.mq_message.specs.from_base.Outside.{Rose}
 use Rattle.mq_cable.specs.declared.item.Item.{Item}
 
 -- these items were pushed; a push was taken only where fewer than 64 items were there

@@ -3,3 +3,4 @@ pub mod Ends
 pub mod Laws
 pub mod Faults
 pub mod Offers
+pub mod from_message

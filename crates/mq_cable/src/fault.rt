@@ -17,7 +17,7 @@ pub enum Fault {
 }
 
 /// The faults of one direction. Of two on one frame the first in the list counts.
-pub type Faults = mq_base::Items<Fault>;
+pub type Faults = mq_message::below::Items<Fault>;
 
 /// Whether a fault is on the frame of that number.
 fn names(frame: u64, fault: Fault) -> bool

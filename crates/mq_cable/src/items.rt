@@ -4,7 +4,7 @@ ghost use Rattle.std.specs.Option.{option_copied};
 ghost use Rattle.mq_cable.specs.Lists.{first_of, after_first};
 
 use crate::item::{Full, Item};
-use mq_base::NoMemory;
+use mq_message::below::NoMemory;
 use std::alloc::Global;
 use std::collections::VecDeque;
 use std::marker::Model;

@@ -1,6 +1,7 @@
 //! One direction of a channel: items, the wire that an end reads and writes, and the scripted faults on it.
 #![tactic(auto)]
 
+pub mod below;
 mod fault;
 mod item;
 mod items;

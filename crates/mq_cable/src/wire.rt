@@ -1,7 +1,7 @@
 //! The two directions that one end of a channel uses.
 ghost use Rattle.std.specs.Prelude.{◌≡◌, ℕ, ◌≤◌, ◌^◌, [], ◌∷◌, ◌++◌, List, Option, IfErr, OnOk, IfSome, IsSome, MatchBool};
 ghost use Rattle.std.specs.Option.{option_copied};
-ghost use Rattle.mq_base.specs.Outside.{Rose};
+ghost use Rattle.mq_message.specs.from_base.Outside.{Rose};
 ghost use Rattle.mq_cable.specs.declared.item.Item.{Item};
 ghost use Rattle.mq_cable.specs.Lists.{list_of};
 

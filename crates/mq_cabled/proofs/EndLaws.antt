@@ -2,8 +2,8 @@
 use Rattle.std.proofs.Common.{◌≡◌, ℕ, zero, suc, ◌<◌, List, [], ◌∷◌, length, refl, sym, ap, ◌∙◌, arith}
 use Rattle.std.specs.Prelude.{position, Some, None, ◌==◌, slice_get, slice_set}
 use Rattle.std.proofs.lemmas.Bool.Decides.{nat_tests}
-use Rattle.mq_spec_node.specs.Node.{ChannelEnd, cable_of, end_in, as_receiver, set_end}
-use Rattle.mq_spec_node.specs.Node.ChannelEnd.{Sends, Receives}
+use Rattle.mq_own.specs.from_spec_node.Node.{ChannelEnd, cable_of, end_in, as_receiver, set_end}
+use Rattle.mq_own.specs.from_spec_node.Node.ChannelEnd.{Sends, Receives}
 use Rattle.mq_cabled.specs.Lifted.{lifted, lifted_ends}
 
 pub at_none : (n : ℕ) (es : List ChannelEnd) → position (λ (e : ChannelEnd). cable_of e == n) es ≡ None → end_in n es ≡ None

@@ -1,7 +1,7 @@
 -- An end whose messages are taken out of its place.
 use Rattle.std.specs.Prelude.{ℕ, ◌==◌, List, [], ◌∷◌, if◌then◌else◌}
-use Rattle.mq_spec_node.specs.Node.{ChannelEnd, Own, cable_of}
-use Rattle.mq_spec_node.specs.Node.ChannelEnd.{Sends, Receives}
+use Rattle.mq_own.specs.from_spec_node.Node.{ChannelEnd, Own, cable_of}
+use Rattle.mq_own.specs.from_spec_node.Node.ChannelEnd.{Sends, Receives}
 
 -- what is left in its place
 abbrev pub lifted : ChannelEnd → ChannelEnd

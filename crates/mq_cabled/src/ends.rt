@@ -1,8 +1,8 @@
 //! The ends of a node's channels, by their cables.
 ghost use Rattle.std.specs.Prelude.{◌≡◌, ◌==◌, position, option_copied, Some, None};
-ghost use Rattle.mq_spec_node.specs.Node as nodes;
-ghost use Rattle.mq_spec_node.specs.Node.{as_receiver, as_sender, cable_of, end_in, receiver_end, sender_end, with_end};
-ghost use Rattle.mq_spec_node.specs.Node.{set_end as set_in};
+ghost use Rattle.mq_own.specs.from_spec_node.Node as nodes;
+ghost use Rattle.mq_own.specs.from_spec_node.Node.{as_receiver, as_sender, cable_of, end_in, receiver_end, sender_end, with_end};
+ghost use Rattle.mq_own.specs.from_spec_node.Node.{set_end as set_in};
 ghost use Rattle.mq_cabled.specs.Lifted.{lifted, with_lifted, lifted_ends};
 
 use mq_base::Items;
@@ -20,7 +20,8 @@ pub fn cable_of(end: &ChannelEnd) -> u16
     }
 }
 
-fn place_in(ends: &[ChannelEnd], cable: u16) -> Option<usize>
+/// The place of the end of a cable among ends.
+pub fn place_in(ends: &[ChannelEnd], cable: u16) -> Option<usize>
     ensures { result ≡ position (λ (e : nodes.ChannelEnd). cable_of e == cable) ends.now }
 {
     ends.iter().position(|end| cable_of(end) == cable)

@@ -7,7 +7,7 @@ use Rattle.std.specs.Cmp.Lexicographic.{slice_cmp}
 use Rattle.mq_calls.specs.Terms.{Ident, Message, Holder, LocalQueue, PathStep, InDoubt, Row, same_ident, insert_row, keep, retag, held_by, is_free, local_of, is_by_priority}
 use Rattle.mq_queue.specs.Lanes.{lane_at}
 use Rattle.mq_queue.specs.Queues.{freed}
-use Rattle.mq_objects.specs.Changed.{changed}
+use Rattle.mq_resolve.specs.from_objects.Changed.{changed}
 use Rattle.mq_calls.specs.State.{Plain, Queue, Connection, Handle, Seizure, Batch, SenderSide, ReceiverSide, Channels, Which, Change, fresh_queue}
 use Rattle.mq_calls.specs.State.Which.{Among, HeldBy, HeldByUnits, Nonpersistent}
 use Rattle.mq_calls.specs.State.Change.{Place as Places, Try, Leave, Hold, Release, Connect, Disconnect, OpenHandle, CloseHandle, SetCursor, Pend, EndUnit, MakeStale, CountIdent, ChangeObjects, Renew, DropQueue, SwitchOn, Serve, SetSender, SetReceiver, Undoubt, Seize, Unseize, AddBatch, DropBatch, SetBound, SetMoment, ForgetAll}

@@ -2,7 +2,7 @@
 use Rattle.std.specs.Prelude.{ℕ, ℤ, ◌+◌, ◌==◌, nat_le, Bool, true, false, not, ◌&&◌, ◌||◌, Option, Some, None, is_some}
 use Rattle.mq_queue.specs.Queues.{count_waiting}
 use Rattle.mq_calls.specs.Terms.{LocalQueue, TriggerType, local_of, process_of, is_transmission}
-use Rattle.mq_objects.specs.declared.object.TriggerType.TheVariants as triggers
+use Rattle.mq_resolve.specs.from_objects.TriggerTypeVariants as triggers
 use Rattle.mq_calls.specs.State.{Plain}
 use Rattle.mq_calls.specs.Reads.{stored, has_priority, is_open_for_input, read_by_handle}
 

@@ -3,7 +3,7 @@ use Rattle.std.specs.Prelude.{ℕ, pos, ◌+◌, Bool, false, List, [], ◌∷�
 use Rattle.std.specs.List.{list_any}
 use Rattle.std.specs.Str.{bytes_eq}
 use Rattle.mq_calls.specs.Terms.{Message, Holder, Row}
-use Rattle.mq_message.specs.declared.place.Holder.TheVariants as holders
+use Rattle.mq_queue.specs.from_message.HolderVariants as holders
 pub use Rattle.mq_calls.specs.declared.image.Shelf.{Shelf}
 pub use Rattle.mq_calls.specs.declared.image.Image.{Image}
 use Rattle.mq_calls.specs.State.{Plain, Given, Queue, Batch, LogState}

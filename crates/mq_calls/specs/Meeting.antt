@@ -1,10 +1,10 @@
 -- How a body meets a step: by its result, which names the free choice, and by the manager after it.
 use Rattle.std.specs.Prelude.{◌≡◌, ℕ, ◌≤◌, List, [], Option, Some, None, Result, Ok, Err}
-use Rattle.mq_base.specs.Outside.{Rose}
+use Rattle.mq_disk.specs.from_base.Outside.{Rose}
 use Rattle.mq_disk.specs.declared.cutter.Stop.{Stop}
 use Rattle.mq_disk.specs.declared.cutter.Stop.TheVariants as stops
 use Rattle.mq_calls.specs.Terms.{Reason, Answer, Halt, Did}
-use Rattle.mq_codes.specs.declared.reason.Reason.TheVariants as reasons
+use Rattle.mq_resolve.specs.from_codes.ReasonVariants as reasons
 use Rattle.mq_calls.specs.declared.answers.Answer.TheVariants as answers
 use Rattle.mq_calls.specs.declared.commands.Halt.TheVariants as halts
 use Rattle.mq_calls.specs.State.{Plain}

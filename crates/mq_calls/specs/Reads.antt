@@ -3,7 +3,7 @@ use Rattle.std.specs.Prelude.{ℕ, ℤ, pos, negsuc, ◌+◌, ◌==◌, nat_lt, 
 use Rattle.std.specs.List.{list_any}
 use Rattle.std.specs.Str.{bytes_eq}
 use Rattle.mq_calls.specs.Terms.{Ident, Message, Holder, RouteEnd, PathStep, Input, InDoubt, SenderData, ReceiverData, Row, has_ident, is_free}
-use Rattle.mq_message.specs.declared.place.Holder.TheVariants as holders
+use Rattle.mq_queue.specs.from_message.HolderVariants as holders
 pub use Rattle.mq_queue.specs.Rows.{is_int, is_persistent, is_by_unit, has_priority}
 use Rattle.mq_resolve.specs.declared.route.RouteEnd.TheVariants.{Local, Via}
 use Rattle.mq_resolve.specs.declared.route.PathStep.TheVariants as steps

@@ -3,14 +3,12 @@
 use Rattle.std.specs.Prelude.{ℕ, pos, ◌≡◌, ◌⊎◌, ◌≤◌, Bool, true, false, List, [], Option, Some, None, is_some, map, All, AllPairs}
 use Rattle.std.specs.List.{list_any}
 use Rattle.std.specs.Str.{bytes_eq}
-use Rattle.mq_message.specs.declared.message.Ident.{Ident}
-use Rattle.mq_message.specs.declared.place.Holder.{Holder}
-use Rattle.mq_message.specs.declared.place.Holder.TheVariants as holders
+use Rattle.mq_queue.specs.from_message.{Holder, Ident}
+use Rattle.mq_queue.specs.from_message.HolderVariants as holders
 use Rattle.mq_queue.specs.declared.row.Row.{Row}
 use Rattle.mq_queue.specs.Rows.{same_ident}
-use Rattle.mq_objects.specs.declared.object.LocalQueue.{LocalQueue}
-use Rattle.mq_objects.specs.declared.object.Object.{Object}
-use Rattle.mq_objects.specs.Names.{local_of, locals_of, is_transmission, is_object, space_of, name_of}
+use Rattle.mq_resolve.specs.from_objects.{LocalQueue, Object}
+use Rattle.mq_resolve.specs.from_objects.Names.{local_of, locals_of, is_transmission, is_object, space_of, name_of}
 use Rattle.mq_sync.specs.declared.unit.Unit.{Unit as Luw}
 use Rattle.mq_sync.specs.declared.data.InDoubt.{InDoubt}
 use Rattle.mq_sync.specs.Units.{no_unit}

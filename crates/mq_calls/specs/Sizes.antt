@@ -1,9 +1,9 @@
 -- How many bytes records take in the log.
 use Rattle.std.specs.Prelude.{ℕ, ◌+◌, ◌*◌, List, Option, Some, None, length, sum_by}
 use Rattle.mq_calls.specs.Terms.{Message, Dest, Add, ObjectChange, LogRecord}
-use Rattle.mq_objects.specs.Names.{name_of, subject_name}
-use Rattle.mq_objects.specs.Attributes.{define_text, manager_text, delete_text}
-use Rattle.mq_objects.specs.declared.change.ObjectChange.TheVariants as changes
+use Rattle.mq_resolve.specs.from_objects.Names.{name_of, subject_name}
+use Rattle.mq_resolve.specs.from_objects.Attributes.{define_text, manager_text, delete_text}
+use Rattle.mq_resolve.specs.from_objects.ObjectChangeVariants as changes
 use Rattle.mq_calls.specs.declared.records.LogRecord.TheVariants as records
 
 -- two names where a message has a route

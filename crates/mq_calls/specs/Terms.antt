@@ -1,23 +1,7 @@
 -- The words of the crates below: plain data of messages, objects, routes, channels and calls.
-pub use Rattle.mq_codes.specs.declared.reason.Reason.{Reason}
-pub use Rattle.mq_message.specs.declared.message.Ident.{Ident}
-pub use Rattle.mq_message.specs.declared.message.Dest.{Dest}
-pub use Rattle.mq_message.specs.declared.message.Md.{Md}
-pub use Rattle.mq_message.specs.declared.message.Message.{Message}
-pub use Rattle.mq_message.specs.declared.place.Place.{Place}
-pub use Rattle.mq_message.specs.declared.place.Want.{Want}
-pub use Rattle.mq_message.specs.declared.place.Holder.{Holder}
-pub use Rattle.mq_objects.specs.declared.object.Definitions.{Definitions}
-pub use Rattle.mq_objects.specs.declared.object.Object.{Object}
-pub use Rattle.mq_objects.specs.declared.object.LocalQueue.{LocalQueue}
-pub use Rattle.mq_objects.specs.declared.object.Process.{Process}
-pub use Rattle.mq_objects.specs.declared.object.Channel.{Channel}
-pub use Rattle.mq_objects.specs.declared.object.ChannelKind.{ChannelKind}
-pub use Rattle.mq_objects.specs.declared.object.ManagerAttributes.{ManagerAttributes}
-pub use Rattle.mq_objects.specs.declared.object.TriggerType.{TriggerType}
-pub use Rattle.mq_objects.specs.declared.change.ObjectChange.{ObjectChange}
-pub use Rattle.mq_objects.specs.declared.command.Subject.{Subject}
-pub use Rattle.mq_objects.specs.declared.command.Command.{Command}
+pub use Rattle.mq_resolve.specs.from_codes.{Reason}
+pub use Rattle.mq_queue.specs.from_message.{Dest, Holder, Ident, Md, Message, Place, Want}
+pub use Rattle.mq_resolve.specs.from_objects.{Channel, ChannelKind, Command, Definitions, LocalQueue, ManagerAttributes, Object, ObjectChange, Process, Subject, TriggerType}
 pub use Rattle.mq_resolve.specs.declared.route.Route.{Route}
 pub use Rattle.mq_resolve.specs.declared.route.RouteEnd.{RouteEnd}
 pub use Rattle.mq_resolve.specs.declared.route.PathStep.{PathStep}
@@ -74,4 +58,4 @@ pub use Rattle.mq_sync.specs.Settlement.{data_settled, data_prepared, settle_by,
 pub use Rattle.mq_calls.specs.Reading.{failed_by, value_of}
 pub use Rattle.mq_queue.specs.declared.row.Row.{Row}
 pub use Rattle.mq_queue.specs.Rows.{same_ident, has_ident, is_free, is_after, is_wanted, same_place, held_by, keep, retag, insert_row}
-pub use Rattle.mq_objects.specs.Names.{queue_of, local_of, locals_of, process_of, channel_of, is_transmission, is_by_priority}
+pub use Rattle.mq_resolve.specs.from_objects.Names.{queue_of, local_of, locals_of, process_of, channel_of, is_transmission, is_by_priority}

@@ -1,8 +1,8 @@
 //! What channel ends and the dead-letter handler ask of a manager, and why it is not done (this project's choice).
 
-use mq_base::{Items, QName};
-use mq_codes::Reason;
-use mq_message::Message;
+use mq_disk::below::{Items, QName};
+use mq_queue::below::Message;
+use mq_resolve::below::Reason;
 use mq_sync::{End, Unit};
 
 /// Why a call of a channel end or of the handler was not done. `Disk` and `Cut` take the manager

@@ -1,7 +1,7 @@
 //! Arguments and answers of the MQI calls. Source: MQI application reference, the calls' descriptions.
 
-use mq_codes::Reason;
-use mq_message::{Bytes, Ident, Md, Want};
+use mq_queue::below::{Bytes, Ident, Md, Want};
+use mq_resolve::below::Reason;
 
 /// A connection handle; manager 0 stands for none.
 #[derive(Clone, Copy)]

@@ -1,8 +1,8 @@
 //! Refusals of commands, first starts and restarts, and how an inner call ends without its answer.
 
-use mq_base::Items;
 use mq_disk::Stop;
-use mq_objects::Keyword;
+use mq_disk::below::Items;
+use mq_resolve::below::Keyword;
 
 /// The lines that a command shows; none but for DISPLAY.
 #[derive(Drop)]

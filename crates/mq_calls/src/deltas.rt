@@ -1,9 +1,9 @@
 //! What a call did, for the history (this project's choice).
 
 use crate::agents::Note;
-use mq_base::{ChName, Items, QName};
-use mq_codes::Reason;
-use mq_message::{Dest, Holder, Ident};
+use mq_disk::below::{ChName, Items, QName};
+use mq_queue::below::{Dest, Holder, Ident};
+use mq_resolve::below::Reason;
 use mq_sync::Unit;
 
 /// Why a row went.

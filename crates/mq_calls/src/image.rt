@@ -1,9 +1,9 @@
 //! What a log keeps of a manager.
 
 use crate::state::{ReceiverSide, SenderSide};
-use mq_base::{Items, QName};
-use mq_objects::Definitions;
+use mq_disk::below::{Items, QName};
 use mq_queue::Row;
+use mq_resolve::below::Definitions;
 
 /// A local queue as a log keeps it: its rows that last, in order of place. Their arrivals are 0, for a log knows none.
 #[derive(Drop)]

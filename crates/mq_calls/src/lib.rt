@@ -7,6 +7,7 @@
 
 mod agents;
 mod answers;
+pub mod below;
 mod choices;
 mod commands;
 mod deltas;

@@ -10,7 +10,7 @@ use Rattle.jiff_core.proofs.SignedLemmas.{signed_arith}
 use Rattle.jiff_core.proofs.CalendarLemmas.{day_count-epoch, days_from_civil-day_count, day_count-next_year, day_count-lt_year, day_count-day_of_year, day_of_year_bound, days_of_months-zero, days_of_months_more}
 use Rattle.jiff_core.proofs.DateLemmas.{civil}
 use Rattle.jiff_core.proofs.StandardFacts.{known_days}
-use Rattle.mq_clock.specs.Stamps.{days_in_year, days_in_month, reached, year_of, month_of, date_digits, date_in}
+use Rattle.mq_heads.specs.Stamps.{days_in_year, days_in_month, reached, year_of, month_of, date_digits, date_in}
 
 -- so many days stand before each place
 abbrev Steps : (ℕ → ℕ) → (ℕ → ℕ) → ℕ → Type 0

@@ -3,10 +3,12 @@
 
 ghost use Rattle.std.specs.Prelude.{◌≡◌, ◌+◌, ◌<◌, ◌≤◌, ◌≤ℤ◌, ◌-◌, pos, unsigned_abs};
 ghost use Rattle.jiff.specs.Words.{epoch_day};
-ghost use Rattle.mq_clock.specs.Stamps.{put_date, put_time, digits, date_digits};
+ghost use Rattle.mq_heads.specs.Stamps.{put_date, put_time, digits, date_digits};
 
 use jiff::ToSpan;
 use jiff::civil::{Date, date};
+
+pub mod below;
 
 /// The last moment that has a put date: the last millisecond of the year 9999.
 pub const LAST_MOMENT: u64 = 253_402_300_799_999;
@@ -51,7 +53,7 @@ fn date_text(date: Date) -> [u8; 8]
     [a, b, c, d, e, f, g, h]
 }
 
-#[tactic(auto, unfolding(crate::specs::Stamps::put_time))]
+#[tactic(auto, unfolding(mq_heads::specs::Stamps::put_time))]
 fn time_stamp(moment: u64) -> [u8; 8]
     requires { moment ≤ 253402300799999 }
     ensures { result ≡ put_time moment }

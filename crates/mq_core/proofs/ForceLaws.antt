@@ -1,6 +1,6 @@
 -- What a forced write leaves: the view after it, and what ties the parts.
-use Rattle.std.proofs.Common.{◌≡◌, ℕ, ◌+◌, ◌≤◌, Bool, true, false, cond, List, [], ◌∷◌, ◌++◌, length, refl, ap, arith, sym, subst, ◌∙◌}
-use Rattle.std.specs.Prelude.{Option, Some, Result, Ok, Err, map, not, IsErrOf, OnOk}
+use Rattle.std.proofs.Common.{◌≡◌, ℕ, ◌+◌, ◌<◌, ◌≤◌, Bool, true, false, cond, List, [], ◌∷◌, ◌++◌, length, refl, ap, arith, sym, subst, ◌∙◌}
+use Rattle.std.specs.Prelude.{◌^◌, Option, Some, Result, Ok, Err, map, not, IsErrOf, OnOk}
 use Rattle.std.specs.Str.{bytes_eq}
 use Rattle.mq_base.specs.Outside.{Rose}
 use Rattle.mq_disk.specs.declared.cutter.Stop.{Stop}
@@ -12,14 +12,16 @@ use Rattle.mq_calls.specs.declared.records.LogRecord.{LogRecord}
 use Rattle.mq_log.specs.State.{LogState, log_length, Appended}
 use Rattle.mq_log.specs.Force.{Stops}
 use Rattle.mq_log.proofs.Logs.{log_length-push}
-use Rattle.mq_record.specs.Records.{record_bytes}
-use Rattle.mq_record.specs.Room.{Buffered}
+use Rattle.mq_sides.specs.from_record.Records.{record_bytes}
+use Rattle.mq_sides.specs.from_record.Room.{Buffered}
 use Rattle.mq_place.specs.States.{QueueState, queues_of, state_in, on_queue, on_queues}
+use Rattle.mq_core.specs.declared.parts.ChannelEnds.{ChannelEnds}
 use Rattle.mq_core.specs.declared.parts.StoppedWrite.{StoppedWrite}
 use Rattle.mq_core.specs.declared.parts.Mode.{Mode}
 use Rattle.mq_core.specs.declared.parts.Mode.TheVariants as modes
 use Rattle.mq_core.specs.Views.{PartsValue, plain_of, frozen_of, noted, length_of}
-use Rattle.mq_core.specs.Ties.{TiedBut, mode_is_up, state_lanes, pending_at, times_in_rows, times_in_queues, one_if}
+use Rattle.mq_core.specs.Ties.{TiedBut, TiedWith, TiedUp, mode_is_up, needs, state_lanes, pending_at, times_in_rows, times_in_queues, one_if}
+use Rattle.mq_core.specs.Placing.{with_states}
 use Rattle.mq_core.specs.Forced.{IsForced, downed}
 use Rattle.mq_core.specs.Writes.{FitsRecord}
 
@@ -57,6 +59,40 @@ times_keep i test (row ∷ rows) = by (test row) (times_keep i test rows)
 pub times_on : (i : Ident) (f : StateQueue → StateQueue) → ((q : StateQueue) → times_in_rows i (f q).rows ≤ times_in_rows i q.rows) → (qs : List QueueState) → times_in_queues i (queues_of (on_queues f qs)) ≤ times_in_queues i (queues_of qs)
 times_on i f le [] = omega arith
 times_on i f le (s ∷ ss) = let one = le s.queue in let more = times_on i f le ss in omega (arith, one, more)
+
+-- what is asked of ends, log, body and mode is asked while it is up, but for the longest record; the rest looks at none of them
+pub tied_where : (waiting standing : List Item) (e : ChannelEnds) (l : LogState) (b : Buffered) (m : Mode) (x : PartsValue) → (mode_is_up m ≡ true → TiedUp (record x { mode = m; ends = e; log = l; body = b }))
+    → (mode_is_up m ≡ true → l.reserved ≡ needs x.desk.live) → (mode_is_up m ≡ true → l.reserved ≤ l.max) → l.max < 2 ^ 32 → TiedWith waiting standing x → TiedWith waiting standing (record x { mode = m; ends = e; log = l; body = b })
+tied_where waiting standing e l b m x up reserved within max t = record {
+  up = up;
+  reserved = reserved;
+  within = within;
+  queues = record { lanes = t.queues.lanes; pending = t.queues.pending };
+  idents = record { once = t.idents.once; given = t.idents.given };
+  forced = t.forced;
+  max = max;
+  moment = t.moment;
+}
+
+-- all queues changed alike, so that no ident is there more often: what tied the parts still does
+pub tied_on : (f : StateQueue → StateQueue) → ((q : StateQueue) → (f q).name ≡ q.name) → ((i : Ident) (q : StateQueue) → times_in_rows i (f q).rows ≤ times_in_rows i q.rows) → (waiting standing : List Item) (x : PartsValue)
+    → TiedWith waiting standing x → TiedWith waiting standing (with_states (on_queues f x.queues.states) x)
+tied_on f named fewer waiting standing x t = record {
+  up = λ u. let w = t.up u in record { live = w.live; settled = w.settled; ends = w.ends; room = w.room; body = w.body };
+  reserved = t.reserved;
+  within = t.within;
+  queues = record {
+    lanes = λ name. seen_on f named state_lanes (λ s. refl) name x.queues.states ∙ t.queues.lanes name;
+    pending = λ name. seen_on f named pending_at (λ s. refl) name x.queues.states ∙ t.queues.pending name;
+  };
+  idents = record {
+    once = λ i. let less = times_on i f (fewer i) x.queues.states in let old = t.idents.once i in omega (arith, less, old);
+    given = λ i a b c. let less = times_on i f (fewer i) x.queues.states in let old = t.idents.given i a b c in omega (arith, less, old);
+  };
+  forced = t.forced;
+  max = t.max;
+  moment = t.moment;
+}
 
 -- the view of a manager that a stopped write took down
 with_queues : Plain → List StateQueue → Plain

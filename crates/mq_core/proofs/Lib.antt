@@ -8,3 +8,5 @@ pub mod RoomLaws
 pub mod ReadLaws
 pub mod PendLaws
 pub mod WriteLaws
+pub mod from_record
+pub mod from_unit

@@ -12,8 +12,8 @@ use Rattle.mq_calls.specs.State.Change.{CloseHandle}
 use Rattle.mq_spec_manager.specs.Words.{for_connection, for_handle, live_or, close_handle, close_up, new_handle, open_step}
 use Rattle.mq_calls.specs.declared.answers.Answer.TheVariants as answers
 use Rattle.mq_calls.specs.declared.commands.Halt.TheVariants as halts
-use Rattle.mq_handles.specs.Desks.{Desk}
-use Rattle.mq_handles.specs.Seats.{opened}
+use Rattle.mq_trigger.specs.from_handles.Desks.{Desk}
+use Rattle.mq_trigger.specs.from_handles.Seats.{opened}
 use Rattle.mq_core.specs.declared.parts.Mode.{Mode}
 use Rattle.mq_core.specs.declared.parts.Mode.TheVariants as modes
 use Rattle.mq_core.specs.Views.{PartsValue, plain_of, frozen_of, running_of}

@@ -15,9 +15,9 @@ use Rattle.mq_calls.specs.State.Change.{CountIdent, Pend}
 use Rattle.mq_calls.specs.declared.state.Item.TheVariants.{Put, Take}
 use Rattle.mq_spec_manager.specs.Words.{next_ident, sent_answer, put_part, for_connection, live_or}
 use Rattle.mq_core.specs.Calls.{unit_step}
-use Rattle.mq_unit.specs.Forced.{CanBeForced, ItemCanBeForced}
-use Rattle.mq_record.specs.Records.{CanBeKept}
-use Rattle.mq_handles.specs.Seats.{pended, emptied}
+use Rattle.mq_sides.specs.from_unit.Forced.{CanBeForced, ItemCanBeForced}
+use Rattle.mq_sides.specs.from_record.Records.{CanBeKept}
+use Rattle.mq_trigger.specs.from_handles.Seats.{pended, emptied}
 use Rattle.mq_place.specs.States.{queues_of, state_in, change_state, expecting}
 use Rattle.mq_core.specs.Views.{PartsValue, plain_of, frozen_of, running_of}
 use Rattle.mq_core.specs.Ties.{Tied, TiedUp, needs, times_in_unit, times_in_units, times_in_queues, AreForced, state_lanes, pending_at, one_if, mode_is_up}

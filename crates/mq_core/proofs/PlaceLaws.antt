@@ -4,17 +4,17 @@ use Rattle.std.specs.Prelude.{ℤ, Option, Some, None, IsSome, nat_le}
 use Rattle.std.specs.List.{AllByRecursion}
 use Rattle.std.specs.Str.{bytes_eq}
 use Rattle.std.specs.Cmp.Lexicographic.{bytes_decides}
-use Rattle.std.proofs.lemmas.Bool.Decides.{nat_tests}
-use Rattle.mq_queue.specs.Queues.{Lacks}
-use Rattle.mq_queue.specs.Lanes.{lane_at}
+use Rattle.mq_place.specs.from_queue.Queues.{Lacks}
+use Rattle.mq_place.specs.from_queue.Lanes.{lane_at}
 use Rattle.mq_calls.specs.Words.{Ident, Message, Row, LocalQueue, Plain, has_ident, same_ident, is_by_priority, local_of, insert_row, set_queue, placed_in, place, lane_of, queue_in, try_if, try_trigger, made_due, depth_type, condition, puts_to}
 use Rattle.mq_calls.specs.declared.state.Item.{Item}
 use Rattle.mq_calls.specs.declared.state.Item.TheVariants.{Put, Take}
 use Rattle.mq_calls.specs.State.{Queue as StateQueue}
 use Rattle.mq_place.specs.States.{QueueState, queues_of, state_in, change_state, on_queue, state_or, or_fresh, arrived, IsNowhere}
 use Rattle.mq_core.specs.Views.{PartsValue, plain_of}
-use Rattle.mq_core.specs.Ties.{TiedBut, IsReady, HasCounts, AreCounted, state_lanes, local_lanes, pending_at, times_in_rows, times_in_queues, waits, one_if}
+use Rattle.mq_core.specs.Ties.{TiedBut, TiedWith, TiedIdents, IsReady, HasCounts, AreCounted, state_lanes, local_lanes, pending_at, times_in_rows, times_in_queues, waits, one_if}
 use Rattle.mq_core.specs.Placing.{arrived_at, due_if, put_in_place}
+use Rattle.mq_place.proofs.HomeLaws.{same_self}
 
 pub name_is : (name other : List ℕ) → bytes_eq name other ≡ true → name ≡ other
 name_is name other e = (bytes_decides name other).0 e
@@ -152,9 +152,6 @@ all_at P name (q ∷ qs) s e h = by (bytes_eq name q.queue.name) e (all_at P nam
     by true e rest = subst P (some_same q s e) h.0
     by false e rest = rest e h.1
 
-same_self : (i : Ident) → same_ident i i ≡ true
-same_self i = grind (arith, nat_tests)
-
 -- a put that is on the way can be placed
 ready_at : (most : ℕ) (queue : List ℕ) (m : Message) (x : PartsValue) (s : QueueState) → most + 1 < 2 ^ 64 → AreCounted most x → times_in_queues m.ident (queues_of x.queues.states) ≡ 0 → state_in queue x.queues.states ≡ Some s → 0 < s.pending
     → (o : Option LocalQueue) → local_of queue x.defs.definitions ≡ o → Some s.by_priority ≡ local_lanes o → IsReady queue m x
@@ -173,7 +170,7 @@ ready_at most queue m x s small counts none is wait (Some q) defined lanes =
       due = omega (arith, counted.due, wait, small);
     }
 
-ready_by : (most : ℕ) (queue : List ℕ) (m : Message) (x : PartsValue) (w : ℕ) → most + 1 < 2 ^ 64 → AreCounted most x → times_in_queues m.ident (queues_of x.queues.states) ≡ 0
+pub ready_by : (most : ℕ) (queue : List ℕ) (m : Message) (x : PartsValue) (w : ℕ) → most + 1 < 2 ^ 64 → AreCounted most x → times_in_queues m.ident (queues_of x.queues.states) ≡ 0
     → (o : Option QueueState) → state_in queue x.queues.states ≡ o → pending_at o ≡ w + 1 → state_lanes o ≡ local_lanes (local_of queue x.defs.definitions) → IsReady queue m x
 ready_by most queue m x w small counts none None is pending lanes = absurd (omega (arith, pending))
 ready_by most queue m x w small counts none (Some s) is pending lanes = ready_at most queue m x s small counts none is (omega (arith, pending)) (local_of queue x.defs.definitions) refl lanes
@@ -232,29 +229,34 @@ pub waits_less : (b : Bool) (a w n : ℕ) → n ≡ a + (one_if b + w) → cond 
 waits_less true a w n e = omega (arith, e)
 waits_less false a w n e = omega (arith, e)
 
+-- the idents aside
+pub arrived_but : (queue : List ℕ) (m : Message) (waiting old new : List Item) (x : PartsValue) → IsReady queue m x → TiedIdents new (arrived_at queue m x) → TiedWith (Put queue m ∷ waiting) old x → TiedWith waiting new (arrived_at queue m x)
+arrived_but queue m waiting old new x r apart t = record {
+  up = λ u. let w = t.up u in record { live = w.live; settled = w.settled; ends = w.ends; room = w.room; body = w.body };
+  reserved = t.reserved;
+  within = t.within;
+  queues = record {
+    lanes = λ name. seen_kept queue (arrived m) (λ s. refl) state_lanes (λ s. refl) name x.queues.states r.state r.is ∙ t.queues.lanes name;
+    pending = λ name. pending_changed queue (arrived m) (λ s. refl) (λ n. n - 1) (λ s. refl) name x.queues.states r.state r.is ∙ waits_less (bytes_eq name queue) _ (waits name waiting) _ (t.queues.pending name);
+  };
+  idents = apart;
+  forced = t.forced;
+  max = t.max;
+  moment = t.moment;
+}
+
 pub tied_arrived : (queue : List ℕ) (m : Message) (items : List Item) (x : PartsValue) → IsReady queue m x → TiedBut (Put queue m ∷ items) x → TiedBut items (arrived_at queue m x)
 tied_arrived queue m items x r t =
     let times = λ (i : Ident). times_changed queue (arrived m) (λ s. refl) i (one_if (same_ident m.ident i)) (λ s. times_insert i _ s.queue.rows) x.queues.states r.state r.is in
-    record {
-      up = λ u. let w = t.up u in record { live = w.live; settled = w.settled; ends = w.ends; room = w.room; body = w.body };
-      reserved = t.reserved;
-      within = t.within;
-      queues = record {
-        lanes = λ name. seen_kept queue (arrived m) (λ s. refl) state_lanes (λ s. refl) name x.queues.states r.state r.is ∙ t.queues.lanes name;
-        pending = λ name. pending_changed queue (arrived m) (λ s. refl) (λ n. n - 1) (λ s. refl) name x.queues.states r.state r.is ∙ waits_less (bytes_eq name queue) _ (waits name items) _ (t.queues.pending name);
-      };
-      idents = record {
-        once = λ i. let more = times i in let old = t.idents.once i in omega (arith, more, old);
-        given = λ i a b c. let more = times i in let old = t.idents.given i a b c in omega (arith, more, old);
-      };
-      forced = t.forced;
-      max = t.max;
-      moment = t.moment;
-    }
+    arrived_but queue m items (Put queue m ∷ items) items x r (record {
+      once = λ i. let more = times i in let old = t.idents.once i in omega (arith, more, old);
+      given = λ i a b c. let more = times i in let old = t.idents.given i a b c in omega (arith, more, old);
+    }) t
 
-tied_due : (b : Bool) (queue : List ℕ) (items : List Item) (x : PartsValue) (s : QueueState) → state_in queue x.queues.states ≡ Some s → TiedBut items x → TiedBut items (due_if b queue x)
-tied_due false queue items x s e t = t
-tied_due true queue items x s e t =
+-- a trigger that falls due touches nothing of what ties the parts
+pub tied_due : (b : Bool) (queue : List ℕ) (waiting standing : List Item) (x : PartsValue) (s : QueueState) → state_in queue x.queues.states ≡ Some s → TiedWith waiting standing x → TiedWith waiting standing (due_if b queue x)
+tied_due false queue waiting standing x s e t = t
+tied_due true queue waiting standing x s e t =
     let f = on_queue (made_due (depth_type (local_of queue x.defs.definitions)) x.moment) in
     let times = λ (i : Ident). times_changed queue f (λ s. refl) i 0 (λ s. omega arith) x.queues.states s e in
     record {
@@ -277,7 +279,7 @@ tied_due true queue items x s e t =
 pub tied_placed : (queue : List ℕ) (m : Message) (items : List Item) (x : PartsValue) → IsReady queue m x → TiedBut (Put queue m ∷ items) x → TiedBut items (put_in_place queue m x)
 tied_placed queue m items x r t =
     let y = arrived_at queue m x in
-    tied_due (condition (local_of queue y.defs.definitions) m.md.priority (plain_of y)) queue items y (arrived m r.state) (arrived_there queue m x r) (tied_arrived queue m items x r t)
+    tied_due (condition (local_of queue y.defs.definitions) m.md.priority (plain_of y)) queue items items y (arrived m r.state) (arrived_there queue m x r) (tied_arrived queue m items x r t)
 
 -- a row that does not wait is no matter
 pub tied_take : (queue : List ℕ) (ident : Ident) (persistent : Bool) (items : List Item) (x : PartsValue) → TiedBut (Take queue ident persistent ∷ items) x → TiedBut items x

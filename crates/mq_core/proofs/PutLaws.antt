@@ -4,8 +4,8 @@ use Rattle.mq_base.specs.Outside.{Rose}
 use Rattle.mq_disk.specs.declared.cutter.Stop.{Stop}
 use Rattle.mq_disk.specs.declared.cutter.Stop.TheVariants as stops
 use Rattle.mq_log.specs.Force.{Stops}
-use Rattle.mq_record.specs.Room.{Buffered}
-use Rattle.mq_record.specs.Records.{CanBeKept}
+use Rattle.mq_sides.specs.from_record.Room.{Buffered}
+use Rattle.mq_sides.specs.from_record.Records.{CanBeKept}
 use Rattle.mq_core.specs.declared.parts.StoppedWrite.{StoppedWrite}
 use Rattle.mq_core.specs.declared.parts.StoppedWrite.TheVariants as writes
 use Rattle.std.specs.Prelude.{if◌then◌else◌, is_some, Option, Some, None, Ok, Err, IsSome}
@@ -33,9 +33,9 @@ use Rattle.mq_core.specs.Ties.{TiedBut, Tied, EndsReady, IsReady, HasCounts, Are
 use Rattle.mq_core.specs.Placing.{with_states, arrived_at, due_if, put_in_place}
 use Rattle.mq_sides.specs.Bonds.{KeepsSeats}
 use Rattle.mq_sides.proofs.BondLaws.{all_seated}
-use Rattle.mq_core.specs.Forced.{IsForced, IsExpected, HasMoreRoom, counted_put, downed_put}
+use Rattle.mq_core.specs.Forced.{IsForced, IsExpected, HasMoreRoom, roomier_ends, counted_put, downed_put}
 use Rattle.mq_core.proofs.PlaceLaws.{name_is, some_same, state_named, state_changed, state_other, seen_kept, pending_changed, ready, placed_view, tied_placed}
-use Rattle.mq_core.proofs.ForceLaws.{forced_view, frozen_view, tied_downed, stops_at}
+use Rattle.mq_core.proofs.ForceLaws.{forced_view, frozen_view, tied_where, tied_downed, stops_at}
 
 -- the queues as the plain manager sees them stay where a put more waits
 pub queues_same : (at : List ℕ) (f : QueueState → QueueState) → ((s : QueueState) → (f s).queue ≡ s.queue) → (qs : List QueueState) → queues_of (change_state at f qs) ≡ queues_of qs
@@ -274,22 +274,13 @@ ready_roomier x y h w = subst (λ (p : PartsValue). EndsReady p.ends p.log.spare
 })
 
 pub tied_roomier : (x y : PartsValue) → HasMoreRoom x y → Tied x → Tied y
-tied_roomier x y h t = subst Tied (sym h.same) (record {
-  up = λ u. let w = t.up u in record {
-    live = w.live;
-    settled = w.settled;
-    ends = record { log = let a = w.ends.log in omega (arith, a, h.spare); rows = let a = w.ends.rows in omega (arith, a, h.rows); senders = w.ends.senders; receivers = w.ends.receivers; seats = all_seated x.ends.bound.seats y.ends.bound.seats h.seats x.ends.receivers w.ends.seats };
-    room = omega (arith, w.room, h.log);
-    body = omega (arith, w.body, h.body);
-  };
-  reserved = t.reserved;
-  within = t.within;
-  queues = record { lanes = t.queues.lanes; pending = t.queues.pending };
-  idents = record { once = t.idents.once; given = t.idents.given };
-  forced = t.forced;
-  max = t.max;
-  moment = t.moment;
-})
+tied_roomier x y h t = subst Tied (sym h.same) (tied_where [] [] (roomier_ends x.ends y.ends) (record x.log { room = y.log.room; spare = y.log.spare }) y.body x.mode x (λ u. let w = t.up u in record {
+  live = w.live;
+  settled = w.settled;
+  ends = record { log = let a = w.ends.log in omega (arith, a, h.spare); rows = let a = w.ends.rows in omega (arith, a, h.rows); senders = w.ends.senders; receivers = w.ends.receivers; seats = all_seated x.ends.bound.seats y.ends.bound.seats h.seats x.ends.receivers w.ends.seats };
+  room = omega (arith, w.room, h.log);
+  body = omega (arith, w.body, h.body);
+}) t.reserved t.within t.max t)
 
 pub roomier_view : (x y : PartsValue) → HasMoreRoom x y → plain_of y ≡ plain_of x
 roomier_view x y h = ap plain_of h.same

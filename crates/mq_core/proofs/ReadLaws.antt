@@ -5,7 +5,7 @@ use Rattle.std.specs.Str.{bytes_eq}
 use Rattle.std.proofs.lemmas.Bool.Decides.{nat_tests}
 use Rattle.mq_calls.specs.State.{fresh_queue}
 use Rattle.mq_calls.specs.Words.{Row, Queue, is_free, has_priority, depth, queue_in}
-use Rattle.mq_queue.specs.Queues.{count_waiting}
+use Rattle.mq_place.specs.from_queue.Queues.{count_waiting}
 use Rattle.mq_place.specs.States.{QueueState, queues_of, state_in, state_or, or_fresh, depth_of}
 use Rattle.mq_core.specs.Views.{PartsValue, plain_of}
 use Rattle.mq_core.specs.Ties.{Tied, pending_at}
@@ -22,7 +22,7 @@ and_true false b e = refl
 waiting_free : (rows : List Row) → count_waiting 0 rows ≡ count_by is_free rows
 waiting_free rows = λ i. count_by (λ (row : Row). and_true (is_free row) (has_priority 0 row.message.md.priority) (any_priority row.message.md.priority) i) rows
 
-or_fresh_queue : (name : List ℕ) (qs : List QueueState) → (state_or name qs).queue ≡ queue_in name (queues_of qs)
+pub or_fresh_queue : (name : List ℕ) (qs : List QueueState) → (state_or name qs).queue ≡ queue_in name (queues_of qs)
 or_fresh_queue name [] = refl
 or_fresh_queue name (q ∷ qs) = by (bytes_eq name q.queue.name) (or_fresh_queue name qs)
   where

@@ -4,8 +4,8 @@ use Rattle.std.specs.Prelude.{List, [], ◌++◌, length}
 use Rattle.std.proofs.lemmas.List.{append-nil}
 use Rattle.mq_message.specs.declared.message.Message.{Message}
 use Rattle.mq_log.specs.State.{LogState}
-use Rattle.mq_record.specs.Room.{Buffered, with_piece}
-use Rattle.mq_record.specs.Records.{record_bytes, unit_front, add_bytes, IsAdd, IsRecord}
+use Rattle.mq_sides.specs.from_record.Room.{Buffered, with_piece}
+use Rattle.mq_sides.specs.from_record.Records.{record_bytes, unit_front, add_bytes, IsAdd, IsRecord}
 use Rattle.mq_core.specs.Writes.{added}
 use Rattle.mq_core.specs.Forced.{IsReserved, HasMoreRoom, returned}
 use Rattle.mq_place.specs.States.{QueueState, QueueStates, change_state, expecting, unpended}

@@ -7,8 +7,8 @@ use Rattle.mq_calls.specs.Words.{Ident, puts_to, unit_need, connection_at, chang
 use Rattle.mq_calls.specs.declared.state.Connection.{Connection}
 use Rattle.mq_calls.specs.declared.state.Item.{Item}
 use Rattle.mq_calls.specs.Reads.{is_put_to}
-use Rattle.mq_unit.specs.Forced.{CanBeForced}
-use Rattle.mq_handles.specs.Desks.{Desk}
+use Rattle.mq_sides.specs.from_unit.Forced.{CanBeForced}
+use Rattle.mq_trigger.specs.from_handles.Desks.{Desk}
 use Rattle.mq_core.specs.Views.{PartsValue}
 use Rattle.mq_core.specs.Ties.{SameUnits, Tied, needs, times_in_units, times_in_unit, AreForced}
 

@@ -13,7 +13,7 @@ use Rattle.mq_calls.specs.State.Change.{CountIdent}
 use Rattle.mq_calls.specs.declared.deltas.Did.TheVariants as did
 use Rattle.mq_calls.specs.declared.commands.Halt.TheVariants as halts
 use Rattle.mq_spec_manager.specs.Words.{placed, sent_answer, for_connection, live_or}
-use Rattle.mq_record.specs.Records.{CanBeKept}
+use Rattle.mq_sides.specs.from_record.Records.{CanBeKept}
 use Rattle.mq_log.specs.State.{LogState}
 use Rattle.mq_core.specs.Views.{PartsValue, plain_of}
 use Rattle.mq_core.specs.Writes.{FitsRecord, added, now_part}

@@ -6,10 +6,10 @@ use Rattle.mq_disk.specs.declared.cutter.Stop.TheVariants as stops
 use Rattle.mq_calls.specs.Words.{Message, Nonpersistent, record_size, need, kept_in, change_connection}
 use Rattle.mq_calls.specs.declared.records.LogRecord.{LogRecord}
 use Rattle.mq_calls.specs.declared.state.Item.TheVariants.{Put}
-use Rattle.mq_handles.specs.Seats.{pended}
+use Rattle.mq_trigger.specs.from_handles.Seats.{pended}
 use Rattle.mq_log.specs.State.{Appended}
 use Rattle.mq_log.specs.Force.{Stops}
-use Rattle.mq_record.specs.Records.{record_bytes}
+use Rattle.mq_sides.specs.from_record.Records.{record_bytes}
 use Rattle.mq_place.specs.States.{on_queues, change_state, expecting, unpended}
 use Rattle.mq_place.specs.Rooms.{RoomStays}
 pub use Rattle.mq_sides.specs.Bonds.{KeepsSeats}
@@ -85,6 +85,10 @@ pub record IsReserved (need : ℕ) (x y : PartsValue) : Type 0 where
   pub room : 0 < need → x.log.reserved + need ≤ y.log.room
   pub within : 0 < need → x.log.reserved + need ≤ x.log.max
   pub body : x.body.room + length x.body.bytes + need ≤ y.body.room + length y.body.bytes
+
+-- the room of a record is given back
+abbrev pub given_back : ℕ → PartsValue → PartsValue
+given_back need x = record x { body = record { bytes = []; room = x.body.room + length x.body.bytes - need } }
 
 abbrev pub returned : ℕ → PartsValue → PartsValue
 returned need x = record x { log = record x.log { reserved = x.log.reserved - need }; body = record { bytes = []; room = x.body.room + length x.body.bytes - need } }

@@ -6,3 +6,8 @@ pub mod Calls
 pub mod Counting
 pub mod Placing
 pub mod Forced
+pub mod from_handles
+pub mod from_place
+pub mod from_record
+pub mod from_sides
+pub mod from_unit

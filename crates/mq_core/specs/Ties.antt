@@ -8,11 +8,11 @@ use Rattle.mq_calls.specs.declared.state.Connection.{Connection}
 use Rattle.mq_calls.specs.declared.state.Item.{Item}
 use Rattle.mq_calls.specs.declared.state.Item.TheVariants.{Put, Take}
 use Rattle.mq_spec_manager.specs.Words.{last_moment}
-use Rattle.mq_unit.specs.Forced.{CanBeForced}
+use Rattle.mq_sides.specs.from_unit.Forced.{CanBeForced}
 use Rattle.mq_place.specs.States.{QueueState, queues_of, state_in, CanPlace, IsNowhere}
 use Rattle.mq_core.specs.declared.parts.Mode.{Mode}
 use Rattle.mq_core.specs.declared.parts.Mode.TheVariants as modes
-use Rattle.mq_sync.specs.declared.data.InDoubt.{InDoubt}
+use Rattle.mq_calls.specs.from_sync.{InDoubt}
 use Rattle.mq_calls.specs.declared.state.SenderSide.{SenderSide}
 use Rattle.mq_calls.specs.declared.state.ReceiverSide.{ReceiverSide}
 use Rattle.mq_core.specs.declared.parts.ChannelEnds.{ChannelEnds}
@@ -132,16 +132,22 @@ pub record TiedIdents (items : List Item) (x : PartsValue) : Type 0 where
   pub once : (i : Ident) → times_in_queues i (queues_of x.queues.states) + times_in_units i x.desk.live + times_in_unit i items ≤ 1
   pub given : (i : Ident) → i.manager ≡ x.number → i.incarnation ≡ x.incarnation → x.idents < i.number → times_in_queues i (queues_of x.queues.states) + times_in_units i x.desk.live + times_in_unit i items ≡ 0
 
-pub record TiedBut (items : List Item) (x : PartsValue) : Type 0 where
+-- What ties the parts, while the puts of some items wait, and the idents of some stand beside those of the units.
+pub record TiedWith (waiting standing : List Item) (x : PartsValue) : Type 0 where
   pub up : mode_is_up x.mode ≡ true → TiedUp x
   pub reserved : mode_is_up x.mode ≡ true → x.log.reserved ≡ needs x.desk.live
   pub within : mode_is_up x.mode ≡ true → x.log.reserved ≤ x.log.max
-  pub queues : TiedQueues items x
-  pub idents : TiedIdents items x
+  pub queues : TiedQueues waiting x
+  pub idents : TiedIdents standing x
   pub forced : AreForced x.desk.live
   pub max : x.log.max < 2 ^ 32
   pub moment : x.moment ≤ last_moment
 
+-- items are on the way, and their idents with them
+abbrev pub TiedBut : List Item → PartsValue → Type 0
+TiedBut items x = TiedWith items items x
+
+-- and nothing is on the way
 abbrev pub Tied : PartsValue → Type 0
 Tied x = TiedBut [] x
 

@@ -8,7 +8,7 @@ use Rattle.mq_calls.specs.declared.deltas.Did.{Did}
 use Rattle.mq_calls.specs.declared.commands.Halt.{Halt}
 use Rattle.mq_calls.specs.declared.records.LogRecord.{LogRecord}
 use Rattle.mq_log.specs.State.{LogState}
-use Rattle.mq_record.specs.Records.{record_bytes}
+use Rattle.mq_sides.specs.from_record.Records.{record_bytes}
 use Rattle.mq_core.specs.Writes.{FitsRecord}
 
 -- the bodies of the log, and the body whose forced write was stopped

@@ -4,10 +4,10 @@ use Rattle.mq_calls.specs.Words.{Plain, Channels, Part, Noted, Running, Up, Down
 use Rattle.mq_calls.specs.declared.state.Batch.{Batch}
 use Rattle.mq_calls.specs.declared.state.Connection.{Connection}
 use Rattle.mq_spec_manager.specs.Words.{object_part}
-use Rattle.mq_objects.specs.Held.{Held}
+use Rattle.mq_calls.specs.from_objects.Held.{Held}
 use Rattle.mq_log.specs.State.{LogState, log_length}
-use Rattle.mq_record.specs.Room.{Buffered}
-use Rattle.mq_handles.specs.Desks.{Desk}
+use Rattle.mq_sides.specs.from_record.Room.{Buffered}
+use Rattle.mq_trigger.specs.from_handles.Desks.{Desk}
 use Rattle.mq_place.specs.States.{QueueStates, queues_of}
 use Rattle.mq_core.specs.declared.parts.StoppedWrite.{StoppedWrite}
 use Rattle.mq_core.specs.declared.parts.StoppedWrite.TheVariants as writes

@@ -14,7 +14,7 @@ use Rattle.mq_calls.specs.State.Change.{Disconnect, CountIdent, Leave, SetSender
 use Rattle.mq_spec_manager.specs.Words.{placed, unit_record, commit_part}
 use Rattle.mq_calls.specs.declared.agents.Note.TheVariants as notes
 use Rattle.mq_spec_manager.specs.Agents.{prepared_record, prepared_changes, settle_change, settle_did, Landing, Landed, Standing, Absent, InDoubtAt, add_of, land_changes, drop_did}
-use Rattle.mq_record.specs.Records.{IsRecord}
+use Rattle.mq_sides.specs.from_record.Records.{IsRecord}
 use Rattle.mq_core.specs.declared.parts.Arrival.{Arrival}
 
 -- where a record is of a channel, the channel has a name

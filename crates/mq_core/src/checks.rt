@@ -1,19 +1,19 @@
 //! What calls read of a manager's parts: the connection check, and who uses a queue.
 ghost use Rattle.std.specs.Prelude.{◌≡◌, ◌+◌, ◌^◌, ◌<◌, Ok, Err, not, MatchResult, ◌||◌, ◌&&◌, nat_le, length, true};
 ghost use Rattle.mq_calls.specs.Words.{is_input, is_up, read_by_sender, has_held, local_of, depth, is_full};
-ghost use Rattle.mq_spec_manager.specs.Words.{is_other, is_present, is_other_name, is_shut, is_sending, is_transmission_queue, next_ident};
+ghost use Rattle.mq_spec_manager.specs.Words.{is_other, is_present, is_other_name, is_shut, is_sending, is_transmission_queue, is_unfit, next_ident, output_only, sync_full};
 ghost use Rattle.mq_core.specs.Views.{plain_of};
 ghost use Rattle.mq_core.specs.Ties.{Tied};
 ghost use Rattle.mq_core.specs.Calls.{Reaches, Goes};
 
 use crate::parts::{Mode, Parts};
 use mq_base::QName;
+use mq_calls::below::{RouteEnd, Usage};
 use mq_calls::{Hconn, Input};
 use mq_codes::Reason;
 use mq_disk::Disk;
-use mq_handles::Seat;
 use mq_message::Ident;
-use mq_objects::Usage;
+use mq_trigger::below::Seat;
 
 /// Whether an MQOPEN asks for input.
 pub fn is_input(input: &Input) -> bool
@@ -23,6 +23,23 @@ pub fn is_input(input: &Input) -> bool
         Input::No => false,
         Input::Shared => true,
         Input::Exclusive => true,
+    }
+}
+
+/// Whether the unit of a connection has as many messages as it may (MAXUMSGS).
+pub fn is_sync_full<D: Disk>(parts: &Parts<D>, sync: bool, seat: &Seat) -> bool
+    ensures { result ≡ sync_full sync seat.now (plain_of parts.now) }
+{
+    sync && parts.defs.manager().max_uncommitted as usize <= seat.unit().len()
+}
+
+/// Whether a route ends at a transmission queue that is named as an ordinary one.
+pub fn is_unfit_output<D: Disk>(parts: &Parts<D>, end: &RouteEnd) -> bool
+    ensures { result ≡ is_unfit output_only end.now (plain_of parts.now) }
+{
+    match end {
+        RouteEnd::Local(queue) => parts.is_transmission_queue(queue),
+        RouteEnd::Via { .. } => false,
     }
 }
 

@@ -2,17 +2,17 @@
 ghost use Rattle.std.specs.Prelude.{◌≡◌, ◌+◌, ◌-◌, ◌<◌, ◌≤◌, ◌^◌, true, length, OnOk, OnErr, IfSome, IsSome};
 ghost use Rattle.mq_calls.specs.Words.{need, put_bytes, record_size};
 ghost use Rattle.mq_calls.specs.declared.records.LogRecord.{LogRecord};
-ghost use Rattle.mq_record.specs.Records.{CanBeKept, record_bytes};
+ghost use Rattle.mq_sides.specs.from_record.Records.{CanBeKept, record_bytes};
 ghost use Rattle.mq_core.specs.Writes.{FitsRecord, added};
 ghost use Rattle.mq_core.specs.Ties.{IsReady};
 ghost use Rattle.mq_core.specs.Placing.{put_in_place};
-ghost use Rattle.mq_core.specs.Forced.{IsForced, IsExpected, HasMoreRoom, downed_put, counted_put};
+ghost use Rattle.mq_core.specs.Forced.{IsForced, IsExpected, HasMoreRoom, downed_put, counted_put, given_back};
 
 use crate::parts::{Mode, Parts, StoppedWrite};
 use mq_base::{NoMemory, QName};
 use mq_disk::{Disk, Stop};
 use mq_message::Message;
-use mq_record::unit_front;
+use mq_sides::below::{Effects, unit_front};
 
 /// What a persistent message takes in a record, in bytes.
 pub fn put_bytes(message: &Message) -> u64
@@ -24,6 +24,36 @@ pub fn put_bytes(message: &Message) -> u64
         Some(_) => 96,
     };
     402 + message.body.len() as u64 + route
+}
+
+/// Takes all the memory of a put outside units: for its row, for so many bytes of the log, for one event that is told.
+///
+/// # Errors
+///
+/// No memory; nothing waits.
+pub fn make_put_room<D: Disk>(
+    parts: &mut Parts<D>,
+    effects: &mut Effects,
+    queue: &QName,
+    need: u64,
+) -> Result<(), NoMemory>
+    ensures ok { OnOk result (IsExpected queue.now need parts.old parts.new) }
+    ensures err { OnErr result (HasMoreRoom parts.old parts.new) }
+    ensures dids { effects.new.dids ≡ effects.old.dids }
+    ensures room { OnOk result (1 ≤ effects.new.room) }
+{
+    effects.reserve(1)?;
+    parts.expect_put(queue, need)?;
+    Ok(())
+}
+
+/// The room of a record, of so many bytes, is given back. It takes no memory.
+pub fn return_room<D: Disk>(parts: &mut Parts<D>, need: u64)
+    requires { need ≤ parts.old.body.room + length parts.old.body.bytes }
+    ensures { parts.new ≡ given_back need parts.old }
+{
+    parts.body.clear();
+    parts.body.give_back(need as usize);
 }
 
 impl<D: Disk> Parts<D> {

@@ -5,7 +5,7 @@ ghost use Rattle.mq_core.specs.Values.{begun_call};
 
 use crate::parts::Parts;
 use mq_disk::{Disk, Stop};
-use mq_unit::Effects;
+use mq_sides::below::Effects;
 use std::marker::Model;
 
 /// One queue manager as its calls work on it. Contracts see it as the plain manager, what its last

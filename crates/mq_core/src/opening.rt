@@ -2,7 +2,7 @@
 ghost use Rattle.std.specs.Prelude.{◌≡◌, ◌==◌, ◌+◌, ◌++◌, ◌∷◌, [], ◌^◌, ◌<◌, OnOk, OnErr, IfOk, IfSome, IsSome, ◌||◌, ◌&&◌, nat_le, length, Ok, Err};
 ghost use Rattle.mq_calls.specs.Words.{connection_at, change_connection};
 ghost use Rattle.mq_spec_manager.specs.Words.{new_hconn, new_connection, new_handle, is_unfit, is_in_use, is_nothing, reads};
-ghost use Rattle.mq_handles.specs.Seats.{opened, closed};
+ghost use Rattle.mq_trigger.specs.from_handles.Seats.{opened, closed};
 ghost use Rattle.mq_core.specs.Views.{plain_of};
 ghost use Rattle.mq_core.specs.Ties.{IsSeated};
 ghost use Rattle.mq_core.specs.Calls.{Opens, Closes};
@@ -10,11 +10,11 @@ ghost use Rattle.mq_core.specs.Calls.{Opens, Closes};
 use crate::checks::is_input;
 use crate::parts::Parts;
 use mq_base::{NoMemory, QName};
+use mq_calls::below::{Route, RouteEnd, resolve};
 use mq_calls::{Appl, Hconn, Hobj, Open};
 use mq_codes::Reason;
 use mq_disk::Disk;
-use mq_handles::Seat;
-use mq_resolve::{Route, RouteEnd, resolve};
+use mq_trigger::below::Seat;
 
 fn is_nothing(how: &Open) -> bool
     ensures { result ≡ is_nothing how.now }

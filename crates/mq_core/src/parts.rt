@@ -1,18 +1,17 @@
 //! The parts of a queue manager, as its code keeps them.
 use mq_base::{ChName, Items, QName};
+use mq_calls::below::{Defs, Unit};
 use mq_calls::{Note, Remove, Seizure, Why};
 use mq_codes::Reason;
 use mq_disk::Disk;
-use mq_handles::Live;
 use mq_index::IndexedQueue;
 use mq_log::Log;
 use mq_message::{Dest, Ident, Message};
-use mq_objects::Defs;
 use mq_place::{Queues, RowRoom};
-use mq_record::Buffer;
-use mq_sc_apply::Planned;
+use mq_sides::below::Buffer;
 use mq_sides::{Bonds, KeptBatch, KeptReceiver, KeptSender};
-use mq_sync::Unit;
+use mq_spec_manager::below::Planned;
+use mq_trigger::below::Live;
 use std::alloc::Global;
 use std::marker::Model;
 

@@ -8,9 +8,9 @@ ghost use Rattle.mq_place.specs.States.{state_or};
 
 use crate::parts::Parts;
 use mq_base::QName;
+use mq_calls::below::{LocalQueue, TriggerType};
 use mq_disk::Disk;
 use mq_message::Message;
-use mq_objects::{LocalQueue, TriggerType};
 use mq_trigger::{Tried, is_triggered};
 
 impl<D: Disk> Parts<D> {

@@ -15,7 +15,7 @@ use Rattle.mq_spec_network.proofs.Going.{same_network}
 use Rattle.mq_nodes.specs.Course.{mark_at}
 use Rattle.mq_course.specs.Courses.{AllNote, HistoriesHave, OneDoes, absent, marks_or_absent, net_of, with_entries, with_mark}
 
-same_or_not : (n m : ℕ) → (n ≡ m) ⊎ ((n == m) ≡ false)
+pub same_or_not : (n m : ℕ) → (n ≡ m) ⊎ ((n == m) ≡ false)
 same_or_not n m = at_it (n == m) refl
   where
     are_same : (a b : ℕ) → (a == b) ≡ true → a ≡ b

@@ -1,6 +1,7 @@
 -- The calls that a fuse passes on.
-use Rattle.std.specs.Prelude.{ℕ, suc, zero, Option, Some, None, Result, Ok, Err}
-use Rattle.mq_base.specs.Outside.{raised}
+use Rattle.std.specs.Prelude.{◌≡◌, ◌≤◌, ◌⊎◌, ℕ, suc, zero, Option, Some, None, Result, Ok, Err, IsErr, OnErr}
+use Rattle.mq_base.specs.Outside.{raised, Rose}
+use Rattle.mq_disk.specs.declared.fuse.Fuse.{Fuse}
 
 -- one call fewer is left; a blown fuse stays so
 abbrev pub less_one : Option ℕ → Option ℕ
@@ -18,3 +19,12 @@ mended (Some (suc n)) = Some (suc n)
 abbrev pub faults_after : {T E : Type 0} → Result T E → ℕ → ℕ
 faults_after (Ok _) faults = faults
 faults_after (Err _) faults = raised faults
+
+-- A call of a disk behind a fuse: one call fewer is left; it fails where none was, without a call of the disk behind, or where that disk did.
+pub record Burns {D T E : Type 0} (faults : D → ℕ) (old : Fuse D) (result : Result T E) (new : Fuse D) : Type 0 where
+  pub left : new.left ≡ less_one old.left
+  pub blown : old.left ≡ Some 0 → IsErr result
+  pub unmade : old.left ≡ Some 0 → new.inner ≡ old.inner
+  pub later : faults old.inner ≤ faults new.inner
+  pub failed : OnErr result ((old.left ≡ Some 0) ⊎ Rose (faults old.inner) (faults new.inner))
+  pub counted : new.faults ≡ faults_after result old.faults

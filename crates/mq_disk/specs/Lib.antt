@@ -4,3 +4,4 @@ pub mod Fuse
 pub mod Memory
 pub mod Shelves
 pub mod Stops
+pub mod from_base

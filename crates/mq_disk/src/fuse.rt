@@ -1,8 +1,8 @@
 //! A disk that fails after a number of calls.
-ghost use Rattle.std.specs.Prelude.{◌≡◌, ◌⊎◌, ◌+◌, ◌-◌, ◌<◌, ◌≤◌, ◌↔◌, max, length, take, drop, Some, IsErr, IfOk, OnOk, OnErr};
+ghost use Rattle.std.specs.Prelude.{◌≡◌, ◌+◌, ◌-◌, ◌<◌, ◌≤◌, ◌↔◌, max, length, take, drop, Some, IsErr, IfOk, OnOk, OnErr};
 ghost use Rattle.mq_base.specs.Outside.{Rose, HasCause};
 ghost use Rattle.mq_disk.specs.Disk.{Only, NothingNew, Follows, Torn, Cut, overwritten};
-ghost use Rattle.mq_disk.specs.Fuse.{less_one, mended, faults_after};
+ghost use Rattle.mq_disk.specs.Fuse.{Burns, less_one, mended, faults_after};
 
 use crate::Disk;
 use crate::counted::{fault, noted};
@@ -86,12 +86,7 @@ impl<D: Disk> Disk for Fuse<D> {
         ensures seen { D.tells → D.seen self.new.inner ≡ D.seen self.old.inner }
         ensures crash { D.tells → NothingNew (D.may_leave self.old.inner) (D.may_leave self.new.inner) }
         ensures cause { HasCause self.old.faults self.new.faults result }
-        ensures left { self.new.left ≡ less_one self.old.left }
-        ensures blown { self.old.left ≡ Some 0 → IsErr result }
-        ensures unmade { self.old.left ≡ Some 0 → self.new.inner ≡ self.old.inner }
-        ensures later { D.faults self.old.inner ≤ D.faults self.new.inner }
-        ensures failed { OnErr result ((self.old.left ≡ Some 0) ⊎ Rose (D.faults self.old.inner) (D.faults self.new.inner)) }
-        ensures counted { self.new.faults ≡ faults_after result self.old.faults }
+        ensures burnt { Burns D.faults self.old result self.new }
     {
         burn(&mut self.left, &mut self.faults)?;
         noted(self.inner.len(), &mut self.faults)
@@ -104,12 +99,7 @@ impl<D: Disk> Disk for Fuse<D> {
         ensures seen { D.tells → D.seen self.new.inner ≡ D.seen self.old.inner }
         ensures crash { D.tells → NothingNew (D.may_leave self.old.inner) (D.may_leave self.new.inner) }
         ensures cause { HasCause self.old.faults self.new.faults result }
-        ensures left { self.new.left ≡ less_one self.old.left }
-        ensures blown { self.old.left ≡ Some 0 → IsErr result }
-        ensures unmade { self.old.left ≡ Some 0 → self.new.inner ≡ self.old.inner }
-        ensures later { D.faults self.old.inner ≤ D.faults self.new.inner }
-        ensures failed { OnErr result ((self.old.left ≡ Some 0) ⊎ Rose (D.faults self.old.inner) (D.faults self.new.inner)) }
-        ensures counted { self.new.faults ≡ faults_after result self.old.faults }
+        ensures burnt { Burns D.faults self.old result self.new }
     {
         burn(&mut self.left, &mut self.faults)?;
         noted(self.inner.read_at(place, buf), &mut self.faults)
@@ -122,12 +112,7 @@ impl<D: Disk> Disk for Fuse<D> {
         ensures partly { D.tells → OnErr result (Torn place (length bytes.now) (D.seen self.old.inner) (D.seen self.new.inner)) }
         ensures crash { D.tells → Follows (Torn place (length bytes.now)) (D.may_leave self.old.inner) (D.may_leave self.new.inner) }
         ensures cause { HasCause self.old.faults self.new.faults result }
-        ensures left { self.new.left ≡ less_one self.old.left }
-        ensures blown { self.old.left ≡ Some 0 → IsErr result }
-        ensures unmade { self.old.left ≡ Some 0 → self.new.inner ≡ self.old.inner }
-        ensures later { D.faults self.old.inner ≤ D.faults self.new.inner }
-        ensures failed { OnErr result ((self.old.left ≡ Some 0) ⊎ Rose (D.faults self.old.inner) (D.faults self.new.inner)) }
-        ensures counted { self.new.faults ≡ faults_after result self.old.faults }
+        ensures burnt { Burns D.faults self.old result self.new }
     {
         burn(&mut self.left, &mut self.faults)?;
         noted(self.inner.write_at(place, bytes), &mut self.faults)
@@ -140,12 +125,7 @@ impl<D: Disk> Disk for Fuse<D> {
         ensures partly { D.tells → OnErr result (Cut len (D.seen self.old.inner) (D.seen self.new.inner)) }
         ensures crash { D.tells → Follows (Cut len) (D.may_leave self.old.inner) (D.may_leave self.new.inner) }
         ensures cause { HasCause self.old.faults self.new.faults result }
-        ensures left { self.new.left ≡ less_one self.old.left }
-        ensures blown { self.old.left ≡ Some 0 → IsErr result }
-        ensures unmade { self.old.left ≡ Some 0 → self.new.inner ≡ self.old.inner }
-        ensures later { D.faults self.old.inner ≤ D.faults self.new.inner }
-        ensures failed { OnErr result ((self.old.left ≡ Some 0) ⊎ Rose (D.faults self.old.inner) (D.faults self.new.inner)) }
-        ensures counted { self.new.faults ≡ faults_after result self.old.faults }
+        ensures burnt { Burns D.faults self.old result self.new }
     {
         burn(&mut self.left, &mut self.faults)?;
         noted(self.inner.cut(len), &mut self.faults)
@@ -157,12 +137,7 @@ impl<D: Disk> Disk for Fuse<D> {
         ensures seen { D.tells → D.seen self.new.inner ≡ D.seen self.old.inner }
         ensures crash { D.tells → NothingNew (D.may_leave self.old.inner) (D.may_leave self.new.inner) }
         ensures cause { HasCause self.old.faults self.new.faults result }
-        ensures left { self.new.left ≡ less_one self.old.left }
-        ensures blown { self.old.left ≡ Some 0 → IsErr result }
-        ensures unmade { self.old.left ≡ Some 0 → self.new.inner ≡ self.old.inner }
-        ensures later { D.faults self.old.inner ≤ D.faults self.new.inner }
-        ensures failed { OnErr result ((self.old.left ≡ Some 0) ⊎ Rose (D.faults self.old.inner) (D.faults self.new.inner)) }
-        ensures counted { self.new.faults ≡ faults_after result self.old.faults }
+        ensures burnt { Burns D.faults self.old result self.new }
     {
         burn(&mut self.left, &mut self.faults)?;
         noted(self.inner.sync(), &mut self.faults)

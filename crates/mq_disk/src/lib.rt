@@ -2,6 +2,7 @@
 //! stops, files, and the cut between a log and a disk.
 #![tactic(auto)]
 
+pub mod below;
 mod counted;
 mod cutter;
 mod disk;

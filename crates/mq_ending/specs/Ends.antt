@@ -5,7 +5,7 @@ use Rattle.mq_history.specs.declared.scenario.Scenario.{Scenario}
 use Rattle.mq_spec_network.specs.Story.{Line, IsStory}
 use Rattle.mq_spec_network.specs.Ledger.{ledger}
 use Rattle.mq_spec_network.specs.Standing.{opening_ledger}
-use Rattle.mq_net_stands.specs.declared.standing.Standing.{Standing}
+use Rattle.mq_net_report.specs.from_net_stands.{Standing}
 use Rattle.mq_net_report.specs.Report.{report}
 use Rattle.mq_ending.specs.declared.ending.Ending.{Ending}
 use Rattle.mq_ending.specs.Verdicts.{verdict, verdict_number}

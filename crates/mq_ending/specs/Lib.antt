@@ -1,2 +1,3 @@
 pub mod Verdicts
 pub mod Ends
+pub mod from_net_report

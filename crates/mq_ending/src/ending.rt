@@ -8,8 +8,8 @@ use crate::verdict::{Verdict, verdict_of};
 use mq_base::NoMemory;
 use mq_history::{History, Scenario};
 use mq_net_ledger::ledger_of;
+use mq_net_report::below::{Standing, Text};
 use mq_net_report::report_text;
-use mq_net_stands::{Standing, Text};
 use mq_story::story_of;
 use std::alloc::Global;
 

@@ -7,7 +7,7 @@ ghost use Rattle.mq_ending.specs.Verdicts.{acted_disk, any_disk, bad_acted, bad_
 use mq_calls::{RestartFault, ScRefusal};
 use mq_disk::Stop;
 use mq_history::{Acted, Conflict, History, OpRefusal, Reply, Scenario};
-use mq_net_conflict::conflict;
+use mq_net_ledger::below::conflict;
 use mq_story::{Spot, entry_at};
 
 /// Bytes that are no log of a manager.

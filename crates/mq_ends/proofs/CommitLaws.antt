@@ -17,10 +17,10 @@ use Rattle.mq_spec_manager.specs.Units.{adds_of, removes_of, record_of, commit_d
 use Rattle.mq_calls.specs.declared.records.Add.{Add}
 use Rattle.mq_calls.specs.declared.records.Remove.{Remove}
 use Rattle.mq_log.specs.Force.{Stops}
-use Rattle.mq_record.specs.Room.{Buffered, with_piece}
-use Rattle.mq_record.specs.Records.{record_bytes}
-use Rattle.mq_unit.specs.Forced.{need_of, unit_record}
-use Rattle.mq_unit.proofs.UnitLaws.{unit_needs}
+use Rattle.mq_core.specs.from_record.Room.{Buffered, with_piece}
+use Rattle.mq_core.specs.from_record.Records.{record_bytes}
+use Rattle.mq_core.specs.from_unit.Forced.{need_of, unit_record}
+use Rattle.mq_core.proofs.from_unit.UnitLaws.{unit_needs}
 use Rattle.mq_core.specs.declared.parts.StoppedWrite.TheVariants as writes
 use Rattle.mq_core.specs.Views.{PartsValue, plain_of, frozen_of, noted, noted_commit}
 use Rattle.mq_core.specs.Writes.{ended_part}

@@ -15,18 +15,18 @@ use Rattle.mq_calls.specs.Reads.{is_put_to}
 use Rattle.mq_calls.specs.declared.state.Item.TheVariants.{Put, Take}
 use Rattle.mq_log.specs.State.{LogState}
 use Rattle.mq_spec_manager.specs.Units.{adds_of, removes_of, record_of}
-use Rattle.mq_unit.specs.Forced.{need_of}
-use Rattle.mq_unit.proofs.UnitLaws.{unit_needs}
-use Rattle.mq_handles.specs.Rising.{AreRising, connection_number}
-use Rattle.mq_handles.specs.Seats.{emptied}
-use Rattle.mq_place.specs.States.{QueueState, state_in, unpended}
+use Rattle.mq_core.specs.from_unit.Forced.{need_of}
+use Rattle.mq_core.proofs.from_unit.UnitLaws.{unit_needs}
+use Rattle.mq_core.specs.from_handles.Rising.{AreRising, connection_number}
+use Rattle.mq_core.specs.from_handles.Seats.{emptied}
+use Rattle.mq_core.specs.from_place.States.{QueueState, state_in, unpended}
 use Rattle.mq_core.specs.Views.{PartsValue, plain_of}
 use Rattle.mq_core.specs.Ties.{TiedBut, Tied, EndsReady, mode_is_up, SameUnits, AreCounted, waits, one_if, pending_at, state_lanes, times_in_rows, times_in_queues}
 use Rattle.mq_core.specs.Placing.{put_in_place, put_each, take_each, removed_from, arrived_at, due_if}
 use Rattle.mq_core.specs.Forced.{IsForced}
 use Rattle.mq_core.specs.Values.{bodies_in}
 use Rattle.mq_core.proofs.PlaceLaws.{waits_less, same_name, ready, tied_placed, tied_take, counts_placed, seen_kept, pending_changed}
-use Rattle.mq_core.proofs.ForceLaws.{seen_on, times_on, times_keep, forced_view}
+use Rattle.mq_core.proofs.ForceLaws.{seen_on, times_on, times_keep, tied_on, forced_view}
 use Rattle.mq_core.proofs.PutLaws.{queues_same, counts_low}
 use Rattle.mq_core.proofs.PendLaws.{unit_le, sum_changed, times_units_changed, forced_changed}
 use Rattle.mq_core.proofs.SeatLaws.{tied_desk}
@@ -108,24 +108,7 @@ tied_ended number n c x y most found w t =
 -- rows that go leave all tied
 tied_removed : (queue : List ℕ) (ident : Ident) (items : List Item) (x : PartsValue) → TiedBut items x → TiedBut items (removed_from queue ident x)
 tied_removed queue ident items x t =
-    let f = kept_in (Among queue (ident ∷ [])) in
-    let times = λ (i : Ident). times_on i f (λ q. times_keep i (λ (row : Row). not (selects (Among queue (ident ∷ [])) q.name row)) q.rows) x.queues.states in
-    record {
-      up = λ u. let w = t.up u in record { live = w.live; settled = w.settled; ends = w.ends; room = w.room; body = w.body };
-      reserved = t.reserved;
-      within = t.within;
-      queues = record {
-        lanes = λ name. seen_on f (λ q. refl) state_lanes (λ s. refl) name x.queues.states ∙ t.queues.lanes name;
-        pending = λ name. seen_on f (λ q. refl) pending_at (λ s. refl) name x.queues.states ∙ t.queues.pending name;
-      };
-      idents = record {
-        once = λ i. let less = times i in let old = t.idents.once i in omega (arith, less, old);
-        given = λ i a b c. let less = times i in let old = t.idents.given i a b c in omega (arith, less, old);
-      };
-      forced = t.forced;
-      max = t.max;
-      moment = t.moment;
-    }
+    tied_on (kept_in (Among queue (ident ∷ []))) (λ q. refl) (λ i q. times_keep i (λ (row : Row). not (selects (Among queue (ident ∷ [])) q.name row)) q.rows) items items x t
 
 pub tied_taken : (taken items : List Item) (x : PartsValue) → TiedBut items x → TiedBut items (take_each taken x)
 tied_taken [] items x t = t

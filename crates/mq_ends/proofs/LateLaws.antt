@@ -12,8 +12,8 @@ use Rattle.mq_calls.specs.State.{Queue as StateQueue}
 use Rattle.mq_calls.specs.State.Change.{EndUnit}
 use Rattle.mq_calls.specs.declared.state.Item.TheVariants.{Put, Take}
 use Rattle.mq_spec_manager.specs.Words.{taken_item, placed_item, freed_item, commit_changes}
-use Rattle.mq_handles.specs.Seats.{emptied}
-use Rattle.mq_place.specs.States.{unpended}
+use Rattle.mq_core.specs.from_handles.Seats.{emptied}
+use Rattle.mq_core.specs.from_place.States.{unpended}
 use Rattle.mq_core.specs.Views.{PartsValue, plain_of, frozen_of}
 use Rattle.mq_core.specs.Ties.{mode_is_up}
 use Rattle.mq_core.specs.Writes.{end_changes}

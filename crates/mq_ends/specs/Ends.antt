@@ -9,8 +9,8 @@ use Rattle.mq_calls.specs.declared.records.LogRecord.{LogRecord}
 use Rattle.mq_calls.specs.declared.answers.Answer.TheVariants as answers
 use Rattle.mq_calls.specs.declared.state.Item.TheVariants.{Put, Take}
 use Rattle.mq_spec_manager.specs.Words.{backout_part}
-use Rattle.mq_handles.specs.Seats.{emptied}
-use Rattle.mq_place.specs.States.{change_state, unpended, on_queues}
+use Rattle.mq_core.specs.from_handles.Seats.{emptied}
+use Rattle.mq_core.specs.from_place.States.{change_state, unpended, on_queues}
 use Rattle.mq_core.specs.Views.{PartsValue}
 use Rattle.mq_core.specs.Writes.{ended_part}
 use Rattle.mq_core.specs.Ties.{IsReady}

@@ -3,8 +3,8 @@ ghost use Rattle.std.specs.Prelude.{◌≡◌, ◌+◌, ◌≤◌, ◌<◌, ◌^
 ghost use Rattle.mq_calls.specs.Words.{connection_at, unit_need};
 ghost use Rattle.mq_calls.specs.declared.state.Connection.{Connection};
 ghost use Rattle.mq_spec_manager.specs.Units.{adds_of, removes_of, record_of, commit_delta, backout_part};
-ghost use Rattle.mq_unit.specs.Forced.{IsEnded};
-ghost use Rattle.mq_handles.specs.Rising.{AreRising, connection_number};
+ghost use Rattle.mq_core.specs.from_unit.Forced.{IsEnded};
+ghost use Rattle.mq_core.specs.from_handles.Rising.{AreRising, connection_number};
 ghost use Rattle.mq_core.specs.Placing.{put_each, take_each};
 ghost use Rattle.mq_core.specs.Forced.{downed};
 ghost use Rattle.mq_core.specs.declared.parts.StoppedWrite.TheVariants as writes;
@@ -12,9 +12,9 @@ ghost use Rattle.mq_ends.specs.Ends.{ended_unit, HasRoom, AreReady, IfForced, ba
 
 use mq_base::Items;
 use mq_calls::Item;
+use mq_core::below::{Effects, Ended};
 use mq_core::{Mode, Parts, StoppedWrite};
 use mq_disk::{Disk, Stop};
-use mq_unit::{Effects, Ended};
 
 /// Forces the record of a unit that has a persistent item. It takes no memory.
 pub(crate) fn force_unit<D: Disk>(parts: &mut Parts<D>, number: u64) -> Result<(), Stop>

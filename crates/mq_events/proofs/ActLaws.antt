@@ -11,7 +11,7 @@ use Rattle.mq_history.specs.declared.calls.Reply.TheVariants as replies
 use Rattle.mq_spec_node.specs.Terms.{Actor, Call, Entry, Plain, Running, Up, Down, Answered, stop, cut, advance_clock}
 use Rattle.mq_spec_manager.specs.Stops.{stop_at}
 use Rattle.mq_spec_node.specs.Words.{Node, Own, node_of, own_crashed, crashed, done_by, Tells, IsReplayed}
-use Rattle.mq_core.specs.Values.{CoreValue}
+use Rattle.mq_manager.specs.from_core.Values.{CoreValue}
 use Rattle.mq_events.specs.States.{NodeState, node_in, value_of, IsKept, IsServed, entry_of, told, quietly}
 use Rattle.mq_events.specs.Events.{ActsAs, acted_by, own_by}
 use Rattle.mq_events.proofs.ReplayLaws.{replayed_more, with_more}

@@ -27,9 +27,9 @@ use Rattle.mq_spec_node.specs.Terms.{Appl, Hconn, Hobj, Open, Get, Plain}
 use Rattle.mq_spec_node.specs.Words.{get_deed}
 use Rattle.mq_spec_manager.specs.Words.{mqconn, mqopen, mqclose, mqput, mqput1, mqget, mqcmit, mqback, mqdisc}
 use Rattle.mq_spec_manager.specs.Get.{is_waiting}
-use Rattle.mq_core.specs.Values.{CoreValue, manager_of}
+use Rattle.mq_manager.specs.from_core.Values.{CoreValue, manager_of}
 use Rattle.mq_events.proofs.NumberLaws.{numbered, get_numbered, WaitsOnly, get_waits}
-use Rattle.mq_law_manager.proofs.ShortSteps.{conn_short, open_short, close_short, put_short, put1_short, commit_short, back_short, disc_short}
+use Rattle.mq_manager.proofs.from_law_manager.ShortSteps.{conn_short, open_short, close_short, put_short, put1_short, commit_short, back_short, disc_short}
 use Rattle.mq_events.specs.Disks.{RoseBy, RoseIn, RoseWhere, disk_failed}
 use Rattle.mq_events.specs.Outcomes.{part_by, IsNumbered, StepIsNumbered, choice_by, reply_by, is_wanting, outcome_of, Came, EndsAs, Ends, EndsSo}
 

@@ -22,10 +22,10 @@ use Rattle.mq_calls.specs.Steps.{when, refusal, refused_or}
 use Rattle.mq_spec_node.specs.Terms.{Did, Reply, Plain, Part, Step, Refuse, Do, Shown, ScRefusal, do_all, command, is_up}
 use Rattle.mq_spec_node.specs.Words.{Own, node_of, command_deed, answer_of}
 use Rattle.mq_spec_manager.specs.Commands.{planned_step, uses_of}
-use Rattle.mq_core.specs.Values.{CoreValue, manager_of}
+use Rattle.mq_manager.specs.from_core.Values.{CoreValue, manager_of}
 use Rattle.mq_events.specs.Outcomes.{StepIsNumbered, choice_by, reply_of, acted_of, is_wanting, WantsCopy, Came, ObeysAs}
 use Rattle.mq_events.proofs.NumberLaws.{numbered}
-use Rattle.mq_law_manager.proofs.ShortSteps.{command_short}
+use Rattle.mq_manager.proofs.from_law_manager.ShortSteps.{command_short}
 use Rattle.mq_events.specs.Disks.{RoseBy}
 use Rattle.mq_events.proofs.CallLaws.{silent, rose_then, stopped, later, faults_so, same_plain, came_so, outcome_by, nothing_possible}
 

@@ -1,5 +1,5 @@
 -- Counters stay low: each event raises them by three at most, and a node makes few of them.
-use Rattle.std.proofs.Common.{◌≡◌, ℕ, ◌+◌, ◌*◌, ◌^◌, ◌<◌, ◌≤◌, Bool, true, false, ◌||◌, nat_le, refl, sym, ap, subst, ◌∙◌, List, [], ◌∷◌, ◌++◌, length, map, inl, inr, arith}
+use Rattle.std.proofs.Common.{◌≡◌, ℕ, ◌+◌, ◌*◌, ◌^◌, ◌<◌, ◌≤◌, Bool, true, false, ◌||◌, nat_le, refl, sym, ap, subst, ◌∙◌, List, [], ◌∷◌, ◌++◌, length, map, arith}
 use Rattle.std.proofs.lemmas.Bool.Decides.{nat_tests}
 use Rattle.std.specs.Prelude.{Option, Some, None, Result, Ok, Err, if◌then◌else◌}
 use Rattle.std.specs.List.{AllByRecursion}
@@ -15,13 +15,13 @@ use Rattle.mq_calls.specs.Images.{begun, numbered, queue_on, raised}
 use Rattle.mq_calls.specs.declared.image.Image.{Image}
 use Rattle.mq_spec_node.specs.Terms.{Acted, Actor, Call, Entry, History, Plain, started_need}
 use Rattle.mq_spec_node.specs.Words.{Deed, Node, Surroundings, opening_node, after, done_by}
-use Rattle.mq_law_manager.specs.Facts.{Mem, AreNamed}
-use Rattle.mq_law_manager.proofs.Lists.{bool_case}
-use Rattle.mq_law_manager.proofs.Named.{name_self, name_turned}
-use Rattle.mq_law_image.proofs.Growing.{handles_more}
-use Rattle.mq_law_log.proofs.Bridge.{all_of}
+use Rattle.mq_manager.specs.from_law_manager.Facts.{AreNamed}
+use Rattle.mq_manager.proofs.from_law_manager.Lists.{bool_case}
+use Rattle.mq_manager.proofs.from_law_image.Growing.{handles_more}
+use Rattle.mq_manager.proofs.from_law_log.Bridge.{all_of}
 use Rattle.mq_law_counts.specs.Counts.{Climbs, IsCountedCall}
 use Rattle.mq_law_counts.proofs.Deeds.{event_climbs}
+use Rattle.mq_law_counts.proofs.Counted.{entry_found}
 use Rattle.mq_events.specs.States.{NodeState, Spare, IsKept, IsLow, marked, node_in, value_of}
 use Rattle.mq_events.specs.Counts.{AreAside, AreBelow, AreCounted, HasBound, HasFewRows, IsNode, KeepsCounts, kept_total, waiting_total}
 use Rattle.mq_events.specs.Events.{ActsAs, Adds, EventIs, IsMqi, MayAct, ServesOne, Stays}
@@ -155,12 +155,6 @@ higher m n p le b = record {
   due = λ name. le_high ((stored name p).due + puts_to name p.connections) m n le (b.due name);
 }
 
--- a queue of the list is the one of its name
-entry_found : (qs : List Queue) → AreNamed qs → (q : Queue) → Mem q qs → queue_in q.name qs ≡ q
-entry_found [] n q m = absurd m
-entry_found (x ∷ xs) n q (inl e) = ap (λ (y : Queue). if bytes_eq q.name y.name then y else queue_in q.name xs) (sym e) ∙ ap (λ (b : Bool). if b then q else queue_in q.name xs) (name_self q.name)
-entry_found (x ∷ xs) n q (inr m) = ap (λ (b : Bool). if b then x else queue_in q.name xs) (name_turned q.name x.name ∙ n.0 q m) ∙ entry_found xs n.1 q m
-
 queues_counted : (most : ℕ) (p : Plain) → AreNamed p.queues → AreBelow most p → AllByRecursion (IsCounted most p) p.queues
 queues_counted most p named b = all_of (IsCounted most p) p.queues (λ q m. record {
   arrivals = subst (λ (x : Queue). x.arrivals + puts_to q.name p.connections ≤ most) (entry_found p.queues named q m) (b.arrivals q.name);
@@ -209,19 +203,11 @@ set_aside_node s r e few more n = subst IsNode (sym e) (at r.spare r.room few mo
 
 -- the calls of a node
 mqi_counted : (what : Call) → IsMqi what → IsCountedCall what
-mqi_counted (calls.Mqconn qmgr appl) m = tt
-mqi_counted (calls.Mqdisc hc) m = tt
-mqi_counted (calls.Mqopen hc name qmgr how) m = tt
-mqi_counted (calls.Mqclose hc ho) m = tt
-mqi_counted (calls.Mqput hc ho md body sync) m = tt
-mqi_counted (calls.Mqput1 hc name qmgr md body sync) m = tt
-mqi_counted (calls.Mqget hc ho get until) m = tt
-mqi_counted (calls.Mqcmit hc) m = tt
-mqi_counted (calls.Mqback hc) m = tt
 mqi_counted (calls.Act act) m = absurd m
 mqi_counted calls.Turn m = absurd m
 mqi_counted calls.Timeout m = absurd m
 mqi_counted calls.Trigger m = absurd m
+mqi_counted _ m = tt
 
 counted_event : (who : Actor) (what : Call) (d : Option Deed) (s : NodeState) (r : Result Bool Want) (t : NodeState) → IsKept s → IsKept t → IsMqi what → AreCounted s → KeepsCounts s t → EventIs who what d s r t → AreCounted t
 counted_event who what d s (Err e) t k l m b q h = counted_still s t b q h

@@ -20,7 +20,7 @@ use Rattle.mq_history.specs.declared.calls.Chance.TheVariants as chances
 use Rattle.mq_base.specs.declared.want.NoMemory.{NoMemory as Want}
 use Rattle.mq_spec_node.specs.Terms.{Actor, Call, Did, Entry, History, Plain, Reply}
 use Rattle.mq_spec_node.specs.Words.{Node, Own, Deed, Done, done, done_or, deed_of, event, remembering, remembered, IsEvent, IsDeed, CanCome, done_by, Tells, TriggerIs, trigger_deed, trigger_deed_of, Surroundings, opening_node, after, forgotten_rows, node_of, IsReplayed}
-use Rattle.mq_core.specs.Values.{CoreValue}
+use Rattle.mq_manager.specs.from_core.Values.{CoreValue}
 use Rattle.mq_events.specs.declared.outcome.Outcome.{Outcome}
 use Rattle.mq_events.specs.Outcomes.{Came, EndsAs, Ends, EndsSo, next_due}
 use Rattle.mq_events.proofs.TurnLaws.{none_due}

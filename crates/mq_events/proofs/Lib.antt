@@ -14,3 +14,9 @@ pub mod NumberLaws
 pub mod CallLaws
 pub mod TurnLaws
 pub mod CommandLaws
+pub mod from_agents
+pub mod from_law_counts
+pub mod from_law_image
+pub mod from_law_log
+pub mod from_manager
+pub mod from_receive

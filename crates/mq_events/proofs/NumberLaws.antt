@@ -19,7 +19,7 @@ use Rattle.mq_spec_manager.specs.Handles.{connected}
 use Rattle.mq_spec_manager.specs.Get.{found_part, mqget, get_up, get_handle, get_tests, room_tests, get_found, scanned, expired_parts, is_under, is_waiting, is_left, with_row, without_row}
 use Rattle.mq_spec_manager.specs.Put.{queue_at}
 use Rattle.mq_events.specs.Outcomes.{IsNumbered, StepIsNumbered}
-use Rattle.mq_law_manager.proofs.ShortSteps.{IsShort, StepIsShort, tested_all, live_all, open_all}
+use Rattle.mq_manager.proofs.from_law_manager.ShortSteps.{IsShort, StepIsShort, tested_all, live_all, open_all}
 
 short_numbered : (parts : List Part) → IsShort parts → IsNumbered parts
 short_numbered [] s n w = absurd w

@@ -9,12 +9,12 @@ use Rattle.mq_objects.specs.declared.object.Object.TheVariants as objects
 use Rattle.mq_objects.specs.Names.{Queues, as_local, local_of, locals_in, locals_of, object_in}
 use Rattle.mq_calls.specs.Words.{Queue}
 use Rattle.mq_calls.specs.Reads.{queue_in}
-use Rattle.mq_law_manager.proofs.Lists.{bool_case, name_yes}
-use Rattle.mq_place.specs.States.{QueueState, queues_of, state_in}
-use Rattle.mq_core.specs.Ties.{Tied, local_lanes, state_lanes}
-use Rattle.mq_core.specs.Views.{PartsValue, plain_of}
-use Rattle.mq_core.proofs.PlaceLaws.{queue_in_state}
-use Rattle.mq_core.proofs.ReadLaws.{queue_none}
+use Rattle.mq_manager.proofs.from_law_manager.Lists.{bool_case, name_yes}
+use Rattle.mq_manager.specs.from_place.States.{QueueState, queues_of, state_in}
+use Rattle.mq_manager.specs.from_core.Ties.{Tied, local_lanes, state_lanes}
+use Rattle.mq_manager.specs.from_core.Views.{PartsValue, plain_of}
+use Rattle.mq_manager.proofs.from_core.PlaceLaws.{queue_in_state}
+use Rattle.mq_manager.proofs.from_core.ReadLaws.{queue_none}
 use Rattle.mq_events.specs.Counts.{HasFew, HasFewRows}
 
 abbrev few : List ℕ → List Queue → Type 0

@@ -8,7 +8,7 @@ use Rattle.mq_history.specs.declared.acts.Acted.TheVariants as acted
 use Rattle.mq_history.specs.declared.calls.Call.TheVariants as calls
 use Rattle.mq_spec_node.specs.Terms.{Actor, Call, Answered, stop, cut, advance_clock}
 use Rattle.mq_spec_node.specs.Words.{deed_of}
-use Rattle.mq_core.specs.Values.{CoreValue}
+use Rattle.mq_manager.specs.from_core.Values.{CoreValue}
 use Rattle.mq_events.specs.declared.outcome.Outcome.{Outcome}
 use Rattle.mq_events.specs.Outcomes.{Ends, EndsSo, next_due}
 use Rattle.mq_events.specs.States.{NodeState, node_in, IsKept, IsLow, IsServed, last_actor, told, finished, quietly}

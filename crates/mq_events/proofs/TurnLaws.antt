@@ -15,9 +15,9 @@ use Rattle.mq_calls.specs.Meeting.{ManagerValue, Wants, MeetsAs, done_all}
 use Rattle.mq_calls.specs.Meeting.Wants.{Behind}
 use Rattle.mq_spec_node.specs.Terms.{Did, Plain, Running, Up, Down, Step, Refuse, Do, Possible, is_up}
 use Rattle.mq_spec_node.specs.Words.{Node, Own, Deed, node_of, parts_of, told, trigger_deed, trigger_deed_of, where_up}
-use Rattle.mq_steer.specs.Due.{name_if, due_where}
+use Rattle.mq_manager.specs.from_steer.Due.{name_if, due_where}
 use Rattle.mq_spec_manager.specs.Triggers.{Never, first_due, trigger_turn}
-use Rattle.mq_core.specs.Values.{CoreValue, manager_of}
+use Rattle.mq_manager.specs.from_core.Values.{CoreValue, manager_of}
 use Rattle.mq_events.specs.declared.outcome.Outcome.{Outcome}
 use Rattle.mq_events.specs.Outcomes.{Came, EndsAs, Ends, EndsSo, next_due, is_wanting}
 use Rattle.mq_events.proofs.CallLaws.{later, silent, wants_nothing, wanted_is, outcome_by}

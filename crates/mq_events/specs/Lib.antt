@@ -4,3 +4,11 @@ pub mod Counts
 pub mod Events
 pub mod Texts
 pub mod Outcomes
+pub mod from_agents
+pub mod from_law_counts
+pub mod from_law_image
+pub mod from_manager
+pub mod from_receive
+pub mod from_restart
+pub mod from_restarts
+pub mod from_spec_log

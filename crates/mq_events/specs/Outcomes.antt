@@ -18,8 +18,8 @@ use Rattle.mq_frame.specs.declared.frame.Seen.TheVariants as items
 use Rattle.mq_spec_node.specs.Terms.{Acted, ScRefusal, Shown, Reason, Answer, Choice, Runs, NoMemory, Stopped, Did, Actor, Call, Reply, Plain, Part, Step, Refuse, Do, delta_before}
 use Rattle.mq_calls.specs.Steps.{IsWrite}
 use Rattle.mq_spec_node.specs.Words.{Node, Own, Deed, done, node_of, CanCome, deed_of, answer_of, sc_stopped}
-use Rattle.mq_core.specs.Values.{CoreValue}
-pub use Rattle.mq_steer.specs.Due.{next_due}
+use Rattle.mq_manager.specs.from_core.Values.{CoreValue}
+pub use Rattle.mq_manager.specs.from_steer.Due.{next_due}
 use Rattle.mq_events.specs.Disks.{RoseIn}
 use Rattle.mq_events.specs.declared.outcome.Outcome.{Outcome}
 use Rattle.mq_events.specs.declared.outcome.Obeyed.{Obeyed}

@@ -2,7 +2,7 @@
 use Rattle.mq_history.specs.declared.acts.Act.TheVariants as acts
 use Rattle.mq_history.specs.declared.calls.Call.TheVariants as calls
 use Rattle.mq_sc_parse.specs.declared.command.Command.TheVariants as commands
-use Rattle.mq_law_image.specs.Values.{IsCommandText}
+use Rattle.mq_manager.specs.from_law_image.Values.{IsCommandText}
 use Rattle.mq_spec_node.specs.Terms.{Act, Call, Command}
 
 -- a command, an act, a call: of objects, if it is of any

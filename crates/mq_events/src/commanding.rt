@@ -1,6 +1,6 @@
 //! Commands on objects, as events.
 ghost use Rattle.std.specs.Prelude.{◌≡◌};
-ghost use Rattle.mq_law_image.specs.Values.{IsCommandText};
+ghost use Rattle.mq_manager.specs.from_law_image.Values.{IsCommandText};
 ghost use Rattle.mq_sc_parse.specs.declared.command.Command.TheVariants as commands;
 ghost use Rattle.mq_history.specs.declared.acts.Act.TheVariants as acts;
 ghost use Rattle.mq_history.specs.declared.calls.Call.TheVariants as calls;

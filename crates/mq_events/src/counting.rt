@@ -2,11 +2,11 @@
 ghost use Rattle.std.specs.Prelude.{◌≡◌, true};
 ghost use Rattle.std.specs.List.{AllByRecursion};
 ghost use Rattle.mq_objects.specs.Names.{locals_of};
-ghost use Rattle.mq_core.specs.Views.{plain_of};
+ghost use Rattle.mq_manager.specs.from_core.Views.{plain_of};
 ghost use Rattle.mq_events.specs.Counts.{HasFew, HasFewRows};
 
-use mq_core::{Core, Parts};
 use mq_disk::Disk;
+use mq_manager::below::{Core, Parts};
 use mq_objects::{LocalQueue, Object};
 
 /// The most rows of a queue with which a manager may begin: no memory holds so many.

@@ -2,6 +2,7 @@
 #![tactic(auto)]
 
 mod acting;
+pub mod below;
 mod calling;
 mod commanding;
 mod counting;

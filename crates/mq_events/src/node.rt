@@ -3,7 +3,7 @@ ghost use Rattle.std.specs.Prelude.{◌≡◌, ◌+◌, ◌<◌, []};
 ghost use Rattle.mq_frame.specs.declared.frame.Seen.TheVariants as items;
 ghost use Rattle.mq_history.specs.declared.acts.Act.TheVariants as acts;
 ghost use Rattle.mq_history.specs.declared.calls.Call.TheVariants as calls;
-ghost use Rattle.mq_law_image.specs.Values.{IsCommandText};
+ghost use Rattle.mq_manager.specs.from_law_image.Values.{IsCommandText};
 ghost use Rattle.mq_sc_parse.specs.declared.command.Command.TheVariants as commands;
 ghost use Rattle.mq_calls.specs.Words.{is_up};
 ghost use Rattle.mq_spec_node.specs.Words.{deed_of, is_spent, opening_node};

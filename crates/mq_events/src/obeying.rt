@@ -1,6 +1,6 @@
 //! Commands on objects.
 ghost use Rattle.std.specs.Prelude.{◌≡◌, [], IfOk, IsOk, Ok};
-ghost use Rattle.mq_law_image.specs.Values.{IsCommandText};
+ghost use Rattle.mq_manager.specs.from_law_image.Values.{IsCommandText};
 ghost use Rattle.mq_events.specs.Outcomes.{reply_of, acted_of, AnswersAs, ObeysAs};
 ghost use Rattle.mq_spec_node.specs.Answers.{sc_stopped};
 

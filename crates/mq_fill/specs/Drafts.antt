@@ -1,6 +1,6 @@
 -- A message that is put, before its body is there.
 use Rattle.std.specs.Prelude.{ℕ, List}
-use Rattle.mq_calls.specs.Words.{Message}
+use Rattle.mq_spec_manager.specs.from_calls.Words.{Message}
 use Rattle.mq_fill.specs.declared.descriptor.Draft.{Draft}
 
 -- the message, with this body

@@ -11,11 +11,11 @@ use crate::defaults::{
 use crate::replies::{Replies, replies_to};
 use crate::routes::dest_at;
 use mq_base::QName;
-use mq_calls::Appl;
 use mq_clock::put_stamp;
 use mq_message::{Dest, Ident, Md, made_msg_id};
 use mq_objects::Defs;
 use mq_resolve::{PathStep, RouteEnd};
+use mq_spec_manager::below::Appl;
 
 /// A message that is put, before its body is there.
 #[derive(Clone, Copy)]

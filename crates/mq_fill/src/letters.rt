@@ -2,15 +2,15 @@
 ghost use Rattle.std.specs.Prelude.{◌≡◌, ◌≤◌, ◌++◌, pos, length, IfOk};
 ghost use Rattle.mq_codes.specs.Numbers.{number};
 ghost use Rattle.mq_base.specs.Name.{padded};
-ghost use Rattle.mq_heads.specs.Headers.{dlh_bytes};
+ghost use Rattle.mq_spec_manager.specs.from_heads.Headers.{dlh_bytes};
 ghost use Rattle.mq_spec_manager.specs.Landing.{names_of, dead_md, dead_head, dead_message};
 ghost use Rattle.mq_spec_manager.specs.Words.{last_moment};
 
-use mq_base::{ChName, NoMemory, QName};
+use mq_base::{ChName, NoMemory, QName, field_of};
 use mq_clock::put_stamp;
 use mq_codes::Reason;
-use mq_heads::{Dlh, dlh_to_bytes};
 use mq_message::{Bytes, Dest, Md, Message};
+use mq_spec_manager::below::{Dlh, dlh_to_bytes};
 use std::alloc::Global;
 
 /// The names that came with a message; blank where none did.
@@ -34,22 +34,11 @@ fn reason_code(reason: &Reason) -> i32
     reason.number() as i32
 }
 
-/// A text with blanks behind it.
-fn padded_text<const N: usize>(text: &[u8]) -> [u8; N]
-    requires { length text.now ≤ N }
-    ensures { result ≡ padded N text.now }
-{
-    let mut field = [b' '; N];
-    let (front, _) = field.split_at_mut(text.len());
-    front.copy_from_slice(text);
-    field
-}
-
 /// The name of the channel, as the program that wrote the header.
 fn appl_name(channel: &ChName) -> [u8; 28]
     ensures { result ≡ padded 28 channel.now }
 {
-    padded_text::<28>(channel.text())
+    field_of::<28>(channel.text())
 }
 
 /// The header of a dead letter.

@@ -3,7 +3,7 @@ use Rattle.std.proofs.Common.{◌≡◌, ℕ, zero, suc, ◌+◌, ◌≤◌, Boo
 use Rattle.std.specs.List.{concat}
 use Rattle.std.proofs.lemmas.List.{append-nil, length-append, length-replicate}
 use Rattle.byteorder.specs.Endian.{big_bytes}
-use Rattle.mq_base.specs.Name.{padded}
+use Rattle.mq_message.specs.from_base.Name.{padded}
 use Rattle.mq_message.specs.declared.message.Dest.{Dest}
 use Rattle.mq_message.specs.declared.message.Message.{Message}
 use Rattle.mq_frame.specs.declared.fault.Miss.{Miss}
@@ -40,7 +40,7 @@ pub record SpellsKind (s : FrameShape) (k : FrameKind) (text : List ℕ) : Type 
 abbrev BindOn : ℕ → FrameKind → List ℕ → Type 0
 BindOn last = Then (InRange 0 1) (λ force. Made (kinds.Bind last (eqb force 1)))
 
-flag_is : (n : ℕ) → n ≤ 1 → flag (eqb n 1) ≡ n
+pub flag_is : (n : ℕ) → n ≤ 1 → flag (eqb n 1) ≡ n
 flag_is zero h = refl
 flag_is (suc zero) h = refl
 flag_is (suc (suc n)) h = absurd (omega arith)

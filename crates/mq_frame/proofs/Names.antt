@@ -6,10 +6,10 @@ use Rattle.std.proofs.lemmas.List.Sums.{list_all-from_AllPass, AllPass-from_list
 use Rattle.std.proofs.lemmas.List.Quantifiers.{position-Some}
 use Rattle.std.proofs.lemmas.Bool.{cases_lt, cases_Bool, not-true, not-false, ltb-true, lt-ltb, le-ltb, and_parts, and_cases, and_from, cond-true, cond-false}
 use Rattle.std.proofs.lemmas.List.{take-take, take-append-drop, drop_all, drop_more, get_or-take, get_or_default, length-take, length-append}
-use Rattle.mq_base.specs.declared.fault.NameFault.{NameFault}
-use Rattle.mq_base.specs.declared.fault.NameFault.TheVariants.{Empty, TooLong, BadByte}
-use Rattle.mq_base.specs.Name.{is_name_byte, padded, IsName, name_of, name_or_bad}
-use Rattle.mq_base.proofs.Fields.{no_bad}
+use Rattle.mq_message.specs.from_base.{NameFault}
+use Rattle.mq_message.specs.from_base.NameFaultVariants.{Empty, TooLong, BadByte}
+use Rattle.mq_message.specs.from_base.Name.{is_name_byte, padded, IsName, name_of, name_or_bad}
+use Rattle.mq_message.proofs.from_base.Fields.{no_bad}
 use Rattle.mq_frame.specs.declared.fault.Miss.{Miss}
 use Rattle.mq_frame.specs.declared.fault.Miss.TheVariants.{Short, Wrong}
 use Rattle.mq_frame.specs.Reading.{◌>>=◌, IsBytes, fixed_at, name_front, name_at}

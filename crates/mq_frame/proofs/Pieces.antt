@@ -4,7 +4,7 @@ use Rattle.std.proofs.lemmas.Bool.{lt-ltb, cases_eq, eq-eqb, cases_lt, le-ltb, l
 use Rattle.std.proofs.lemmas.List.{take_all, take-take, take_at, drop_at, take-append-drop, length-append, length-take, length-replicate, get_or-take, get_or_past}
 use Rattle.byteorder.specs.Endian.{big_bytes, big_number}
 use Rattle.byteorder.specs.Numbers.{big_from-take, big_from-lt, big_number-reads_back, length-bytes_high_first}
-use Rattle.mq_base.proofs.Numbers.{big_number_gives_back}
+use Rattle.mq_message.proofs.from_base.Numbers.{big_number_gives_back}
 use Rattle.mq_frame.specs.declared.fault.Miss.{Miss}
 use Rattle.mq_frame.specs.declared.fault.Miss.TheVariants.{Short, Wrong}
 use Rattle.mq_frame.specs.Reading.{◌>>=◌, IsBytes, byte_at, fixed_at, number_at, positive, positive_at, piece_at}

@@ -4,7 +4,7 @@ use Rattle.std.proofs.lemmas.Bool.{cases_eq, eqb-true, eq-eqb, ne_eqb, le-leb, l
 use Rattle.std.specs.Int.{byte_at}
 use Rattle.byteorder.specs.Endian.{big_bytes, big_number}
 use Rattle.byteorder.specs.Numbers.{big_number-reads_back}
-use Rattle.mq_base.proofs.Numbers.{big_number_gives_back}
+use Rattle.mq_message.proofs.from_base.Numbers.{big_number_gives_back}
 use Rattle.mq_frame.specs.declared.fault.Miss.{Miss}
 use Rattle.mq_frame.specs.declared.fault.Miss.TheVariants.{Short, Wrong}
 use Rattle.mq_frame.specs.declared.shape.FrameShape.{FrameShape}

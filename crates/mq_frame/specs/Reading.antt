@@ -1,7 +1,7 @@
 -- Reading from left to right: a value and the bytes behind it, or why there is none.
 use Rattle.std.specs.Prelude.{◌≡◌, ℕ, ◌+◌, ◌-◌, ◌^◌, ◌<◌, List, ◌∷◌, [], ◌++◌, Option, Some, None, Result, Ok, Err, length, take, drop, replicate, slice_index, nat_lt, nat_le, ◌&&◌, ◌==◌, if◌then◌else◌}
 use Rattle.byteorder.specs.Endian.{big_number, big_bytes}
-use Rattle.mq_base.specs.Name.{is_name_byte}
+use Rattle.mq_message.specs.from_base.Name.{is_name_byte}
 use Rattle.mq_message.specs.declared.message.Ident.{Ident}
 use Rattle.mq_message.specs.declared.message.Dest.{Dest}
 use Rattle.mq_message.specs.declared.message.Md.{Md}

@@ -1,7 +1,7 @@
 //! What a frame says (this project's choice); what it is for is told by distributed queuing, "Safety of
 //! messages".
 
-use mq_base::Items;
+use mq_message::below::Items;
 use mq_message::{Dest, Message};
 use std::alloc::AllocError;
 

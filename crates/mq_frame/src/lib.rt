@@ -1,6 +1,7 @@
 //! The frames that the two ends of a channel exchange.
 #![tactic(auto)]
 
+pub mod below;
 mod decoder;
 mod fault;
 mod frame;

@@ -2,13 +2,13 @@
 
 ghost use Rattle.std.specs.Prelude.{◌≡◌, ◌≤◌, ◌<◌, ◌^◌, ◌-◌, ◌∷◌, [], length, take, drop, slice_index};
 ghost use Rattle.byteorder.specs.Endian.{big_bytes};
-ghost use Rattle.mq_base.specs.Name.{IsName};
+ghost use Rattle.mq_message.specs.from_base.Name.{IsName};
 ghost use Rattle.mq_frame.specs.Reading.{Same, Gives, byte_at, fixed_at, number_at, positive_at, piece_at, name_front, name_at, dest_at, ident_at, deadline_at, md_at, shape_of, third_most, last_at, shape_at};
 
 use crate::fault::Miss;
 use crate::shape::FrameShape;
 use byteorder::{BigEndian, ByteOrder};
-use mq_base::{NameFault, QName};
+use mq_message::below::{NameFault, QName};
 use mq_message::{Dest, Ident, MD_SIZE, Md, md_of};
 
 /// The longest body of a message, in bytes.

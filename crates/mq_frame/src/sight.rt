@@ -6,7 +6,7 @@ ghost use Rattle.mq_frame.specs.Sight.{Shows};
 use crate::fault::Stop;
 use crate::frame::Seen;
 use crate::framing::frame_at;
-use mq_base::NoMemory;
+use mq_message::below::NoMemory;
 use std::alloc::Global;
 
 /// What an end sees of an item that waits: the frame that the item's bytes are, or that they are none.

@@ -8,7 +8,7 @@ ghost use Rattle.mq_frame.specs.Sight.{Shows};
 
 use crate::frame::{Frame, FrameKind};
 use byteorder::{BigEndian, ByteOrder};
-use mq_base::NoMemory;
+use mq_message::below::NoMemory;
 use mq_message::{Bytes, Dest, Ident, Message, md_to_bytes};
 use std::alloc::{AllocError, Global};
 

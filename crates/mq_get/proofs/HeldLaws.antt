@@ -12,19 +12,19 @@ use Rattle.mq_calls.specs.declared.state.Item.TheVariants.{Take}
 use Rattle.mq_calls.specs.declared.deltas.Why.TheVariants as whys
 use Rattle.mq_message.specs.declared.place.Holder.TheVariants as holders
 use Rattle.mq_log.specs.State.{LogState}
-use Rattle.mq_record.specs.Room.{Buffered}
+use Rattle.mq_unit.specs.from_record.Room.{Buffered}
 use Rattle.mq_unit.specs.Told.{Telling}
 use Rattle.mq_unit.proofs.UnitLaws.{take_front}
-use Rattle.mq_handles.specs.Seats.{pended, given_up}
+use Rattle.mq_core.specs.from_handles.Seats.{pended, given_up}
 use Rattle.mq_scan.specs.declared.scanning.Met.{Met}
 use Rattle.mq_core.specs.Views.{PartsValue, plain_of}
 use Rattle.mq_core.specs.Ties.{Tied, mode_is_up}
-use Rattle.mq_core.specs.Forced.{HasMoreRoom}
+use Rattle.mq_core.specs.Forced.{HasMoreRoom, given_back}
 use Rattle.mq_core.specs.Values.{CoreValue, bodies_in, behind_record}
 use Rattle.mq_core.proofs.PutLaws.{more_room, tied_roomier, roomier_view}
 use Rattle.mq_get.specs.declared.leaving.Leaving.{Leaving}
 use Rattle.mq_get.specs.Leaving.{leaving_record, leaving_need, leaving_part, leaving_met, gone_part, gone_parts, held_part}
-use Rattle.mq_get.specs.Rooms.{IsRoomy, IsItemMore, IsHeld, IsUnheld, Writes, unheld, gave_back}
+use Rattle.mq_get.specs.Rooms.{IsRoomy, IsItemMore, IsHeld, IsUnheld, Writes, unheld}
 use Rattle.mq_get.specs.Does.{seen, HasRun, HasBroken, IsCutOff}
 use Rattle.mq_get.proofs.DoesLaws.{run_both, broken_front}
 use Rattle.mq_get.proofs.OutLaws.{dropped_runs, stopped_breaks, stopped_tied, gone_runs, gone_breaks, tied_back}
@@ -144,7 +144,7 @@ held_run number queue mets met need n x r w y t u l is untold up roomy more h =
 -- what ties the parts then
 pub held_after : (number : ℕ) (queue : List ℕ) (met : Met) (need n : ℕ) (c : Connection) (x r w y z : PartsValue) (t u : Telling) (l : Leaving) → connection_at number x.desk.live ≡ Some c
     → unit_need (c.unit ++ Take queue met.ident met.persistent ∷ []) ≡ unit_need c.unit + need → n ≡ leaving_need l.removes + need → mode_is_up x.mode ≡ true → Tied x
-    → IsRoomy n x r → IsItemMore number (Take queue met.ident met.persistent) need r w → IsHeld number queue l met w t y u → z ≡ gave_back n y → Tied z
+    → IsRoomy n x r → IsItemMore number (Take queue met.ident met.persistent) need r w → IsHeld number queue l met w t y u → z ≡ given_back n y → Tied z
 held_after number queue met need n c x r w y z t u l found more_need all up tied roomy more h back =
     let tr = tied_roomy n x r roomy tied in
     let found_r : connection_at number r.desk.live ≡ Some c = ap (λ (v : PartsValue). connection_at number v.desk.live) roomy.same ∙ found in

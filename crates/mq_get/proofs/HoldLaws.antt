@@ -1,5 +1,5 @@
 -- A row that is held for a unit: from the item that waits to the row that is held.
-use Rattle.std.proofs.Common.{◌≡◌, ℕ, zero, suc, ◌+◌, ◌<◌, ◌≤◌, ◌^◌, Bool, true, false, cond, List, [], ◌∷◌, ◌++◌, refl, ap, arith, sym, subst, ◌∙◌}
+use Rattle.std.proofs.Common.{◌≡◌, ℕ, ◌+◌, ◌<◌, ◌≤◌, ◌^◌, Bool, true, false, cond, List, [], ◌∷◌, ◌++◌, refl, ap, arith, sym, subst, ◌∙◌}
 use Rattle.std.proofs.lemmas.List.Sums.{sum_by_push}
 use Rattle.std.proofs.lemmas.Bool.Decides.{nat_tests}
 use Rattle.std.specs.Prelude.{Some, map, sum_by, count_by, ◌==◌, ◌&&◌}
@@ -12,11 +12,10 @@ use Rattle.mq_calls.specs.declared.state.Item.TheVariants.{Put, Take}
 use Rattle.mq_message.specs.declared.place.Holder.{Holder}
 use Rattle.mq_message.specs.declared.place.Holder.TheVariants as holders
 use Rattle.mq_unit.specs.Forced.{CanBeForced}
-use Rattle.mq_handles.specs.Seats.{pended}
-use Rattle.mq_place.specs.States.{queues_of, on_queues}
+use Rattle.mq_core.specs.from_handles.Seats.{pended}
 use Rattle.mq_core.specs.Views.{PartsValue, plain_of, frozen_of}
-use Rattle.mq_core.specs.Ties.{Tied, one_if, state_lanes, pending_at, times_in_rows, times_in_queues, times_in_unit, mode_is_up}
-use Rattle.mq_core.proofs.ForceLaws.{queues_on, seen_on, times_on}
+use Rattle.mq_core.specs.Ties.{Tied, one_if, times_in_rows, times_in_unit, mode_is_up}
+use Rattle.mq_core.proofs.ForceLaws.{queues_on, tied_where, tied_on}
 use Rattle.mq_core.proofs.MeetLaws.{running_up}
 use Rattle.mq_core.proofs.PendLaws.{sum_changed, times_units_changed, forced_changed, unit_le, puts_in, puts_in_count, room_or, within_or}
 use Rattle.mq_get.specs.Rooms.{IsRoomy, IsItemMore, holding}
@@ -57,16 +56,8 @@ count_take name items queue ident persistent = sym (puts_in_count name (items ++
 
 -- more room leaves all tied
 pub tied_roomy : (n : ℕ) (x y : PartsValue) → IsRoomy n x y → Tied x → Tied y
-tied_roomy n x y h t = subst Tied (sym h.same) (record {
-  up = λ u. let w = t.up u in record { live = w.live; settled = w.settled; ends = w.ends; room = omega (arith, w.room, h.more); body = let b = w.body in omega (arith, b, h.body) };
-  reserved = t.reserved;
-  within = t.within;
-  queues = record { lanes = t.queues.lanes; pending = t.queues.pending };
-  idents = record { once = t.idents.once; given = t.idents.given };
-  forced = t.forced;
-  max = t.max;
-  moment = t.moment;
-})
+tied_roomy n x y h t = subst Tied (sym h.same) (tied_where [] [] x.ends (record x.log { room = y.log.room }) y.body x.mode x
+    (λ u. let w = t.up u in record { live = w.live; settled = w.settled; ends = w.ends; room = omega (arith, w.room, h.more); body = let b = w.body in omega (arith, b, h.body) }) t.reserved t.within t.max t)
 
 pub roomy_view : (n : ℕ) (x y : PartsValue) → IsRoomy n x y → plain_of y ≡ plain_of x
 roomy_view n x y h = ap plain_of h.same
@@ -118,26 +109,7 @@ times_retag i queue name ident by (row ∷ rows) = let more = times_retag i queu
 
 pub tied_held : (number : ℕ) (queue : List ℕ) (ident : Ident) (x : PartsValue) → Tied x → Tied (holding number queue ident x)
 tied_held number queue ident x t =
-    let f = held_in (Among queue (ident ∷ [])) (holders.Unit number) in
-    record {
-      up = λ u. let w = t.up u in record { live = w.live; settled = w.settled; ends = w.ends; room = w.room; body = w.body };
-      reserved = t.reserved;
-      within = t.within;
-      queues = record {
-        lanes = λ name. seen_on f (λ q. refl) state_lanes (λ s. refl) name x.queues.states ∙ t.queues.lanes name;
-        pending = λ name. seen_on f (λ q. refl) pending_at (λ s. refl) name x.queues.states ∙ t.queues.pending name;
-      };
-      idents = record {
-        once = λ i. let less = times i in let old = t.idents.once i in omega (arith, less, old);
-        given = λ i a b c. let less = times i in let old = t.idents.given i a b c in omega (arith, less, old);
-      };
-      forced = t.forced;
-      max = t.max;
-      moment = t.moment;
-    }
-  where
-    times : (i : Ident) → times_in_queues i (queues_of (on_queues (held_in (Among queue (ident ∷ [])) (holders.Unit number)) x.queues.states)) ≤ times_in_queues i (queues_of x.queues.states)
-    times i = times_on i (held_in (Among queue (ident ∷ [])) (holders.Unit number)) (λ q. let e = times_retag i queue q.name ident (holders.Unit number) q.rows in omega (arith, e)) x.queues.states
+    tied_on (held_in (Among queue (ident ∷ [])) (holders.Unit number)) (λ q. refl) (λ i q. let e = times_retag i queue q.name ident (holders.Unit number) q.rows in omega (arith, e)) [] [] x t
 
 -- the views
 with_queues : Plain → List StateQueue → Plain

@@ -1,7 +1,6 @@
 -- Lists of rows that leave, built and written one by one.
 use Rattle.std.proofs.Common.{◌≡◌, ℕ, suc, ◌+◌, ◌-◌, ◌*◌, ◌<◌, ◌≤◌, ◌^◌, Bool, true, false, cond, List, [], ◌∷◌, ◌++◌, length, get_or, drop, map, refl, ap, sym, subst, ◌∙◌, append_assoc, add-one, drop-cons, arith}
 use Rattle.std.specs.List.{flat_map, AllByRecursion}
-use Rattle.std.proofs.lemmas.List.{length-append}
 use Rattle.mq_calls.specs.declared.deltas.Did.{Did}
 use Rattle.mq_calls.specs.declared.deltas.Did.TheVariants as did
 use Rattle.mq_calls.specs.declared.deltas.Why.{Why}
@@ -9,10 +8,11 @@ use Rattle.mq_calls.specs.declared.records.LogRecord.TheVariants as records
 use Rattle.mq_calls.specs.Words.{Ident}
 use Rattle.mq_calls.specs.declared.records.Remove.{Remove}
 use Rattle.mq_scan.specs.declared.scanning.Met.{Met}
-use Rattle.mq_record.specs.Room.{Buffered, with_piece}
-use Rattle.mq_record.specs.Records.{record_bytes, unit_front, remove_bytes, IsRemove, IsRecord}
-use Rattle.mq_record.proofs.SizeLaws.{remove_whole}
+use Rattle.mq_unit.specs.from_record.Room.{Buffered, with_piece}
+use Rattle.mq_unit.specs.from_record.Records.{record_bytes, unit_front, remove_bytes, IsRemove, IsRecord}
+use Rattle.mq_unit.proofs.from_record.SizeLaws.{remove_whole}
 use Rattle.mq_unit.specs.Told.{Telling, told, told_all}
+use Rattle.mq_unit.proofs.UnitLaws.{with_two, told_two}
 use Rattle.mq_get.specs.Leaving.{met_ident, removes_met}
 
 -- what is left of a list begins with the next value
@@ -45,12 +45,6 @@ removes_next queue mets i removes new met lt is more left =
 
 -- ---- the bytes of removes
 
-with_two : (x y : List ℕ) (b : Buffered) → with_piece y (with_piece x b) ≡ with_piece (x ++ y) b
-with_two x y b =
-    let bytes : (b.bytes ++ x) ++ y ≡ b.bytes ++ (x ++ y) = append_assoc b.bytes x y in
-    let room : b.room - length x - length y ≡ b.room - length (x ++ y) = omega (arith, length-append x y) in
-    λ i. record { bytes = bytes i; room = room i }
-
 pub record PutsLeft (rs : List Remove) (i : ℕ) (start b : Buffered) : Type 0 where
   pub bytes : with_piece (flat_map remove_bytes (drop i rs)) b ≡ with_piece (flat_map remove_bytes rs) start
   pub room : 65 * length (drop i rs) ≤ b.room
@@ -75,12 +69,6 @@ put_next rs i start b c r lt is put remove s =
     }
 
 -- ---- what is told
-
-told_two : (x y : List Did) (t : Telling) → told_all y (told_all x t) ≡ told_all (x ++ y) t
-told_two x y t =
-    let dids : (t.dids ++ x) ++ y ≡ t.dids ++ (x ++ y) = append_assoc t.dids x y in
-    let room : t.room - length x - length y ≡ t.room - length (x ++ y) = omega (arith, length-append x y) in
-    λ i. record { dids = dids i; room = room i }
 
 abbrev pub removed_did : List ℕ → Why → Ident → Did
 removed_did queue why i = did.Removed queue i why

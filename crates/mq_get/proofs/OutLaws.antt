@@ -13,17 +13,18 @@ use Rattle.mq_calls.specs.declared.deltas.Why.{Why}
 use Rattle.mq_calls.specs.declared.deltas.Did.TheVariants as did
 use Rattle.mq_calls.specs.declared.records.LogRecord.TheVariants as records
 use Rattle.mq_log.specs.State.{LogState}
-use Rattle.mq_place.specs.States.{queues_of, on_queues}
+use Rattle.mq_core.specs.from_place.States.{queues_of, on_queues}
+use Rattle.mq_core.specs.Forced.{given_back}
 use Rattle.mq_scan.specs.declared.scanning.Met.{Met}
 use Rattle.mq_unit.specs.Told.{Telling}
 use Rattle.mq_core.specs.declared.parts.StoppedWrite.TheVariants as writes
 use Rattle.mq_core.specs.Views.{PartsValue, plain_of}
 use Rattle.mq_core.specs.Ties.{Tied, EndsReady, state_lanes, pending_at, times_in_queues, mode_is_up}
 use Rattle.mq_core.specs.Values.{CoreValue, IsRecordIn, bodies_in, behind_record}
-use Rattle.mq_core.proofs.ForceLaws.{queues_on, seen_on, times_on, times_keep, forced_view, frozen_view, tied_downed, stops_at}
+use Rattle.mq_core.proofs.ForceLaws.{queues_on, seen_on, times_on, times_keep, forced_view, frozen_view, tied_where, tied_downed, stops_at}
 use Rattle.mq_get.specs.declared.leaving.Leaving.{Leaving}
 use Rattle.mq_get.specs.Leaving.{leaving_record, leaving_need, leaving_part, gone_part, gone_parts}
-use Rattle.mq_get.specs.Rooms.{Writes, out_of, downed_out, IsDropped, gave_back}
+use Rattle.mq_get.specs.Rooms.{Writes, out_of, downed_out, IsDropped}
 use Rattle.mq_get.specs.Does.{seen, HasRun, HasBroken}
 
 with_queues : Plain → List StateQueue → Plain
@@ -204,14 +205,6 @@ gone_breaks why queue [] by v w h = absurd (none h.part h.write)
 gone_breaks why queue (m ∷ ms) by v w h = h
 
 -- room that is given back leaves all tied
-pub tied_back : (n : ℕ) (x : PartsValue) → (mode_is_up x.mode ≡ true → x.log.reserved + n ≤ x.body.room + length x.body.bytes) → Tied x → Tied (gave_back n x)
-tied_back n x room t = record {
-  up = λ u. let w = t.up u in let r = room u in record { live = w.live; settled = w.settled; ends = w.ends; room = w.room; body = omega (arith, r) };
-  reserved = t.reserved;
-  within = t.within;
-  queues = record { lanes = t.queues.lanes; pending = t.queues.pending };
-  idents = record { once = t.idents.once; given = t.idents.given };
-  forced = t.forced;
-  max = t.max;
-  moment = t.moment;
-}
+pub tied_back : (n : ℕ) (x : PartsValue) → (mode_is_up x.mode ≡ true → x.log.reserved + n ≤ x.body.room + length x.body.bytes) → Tied x → Tied (given_back n x)
+tied_back n x room t = tied_where [] [] x.ends x.log (given_back n x).body x.mode x
+    (λ u. let w = t.up u in let r = room u in record { live = w.live; settled = w.settled; ends = w.ends; room = w.room; body = omega (arith, r) }) t.reserved t.within t.max t

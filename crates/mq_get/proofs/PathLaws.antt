@@ -5,6 +5,7 @@ use Rattle.std.specs.Prelude.{Some, None, Result, Ok, Err}
 use Rattle.mq_disk.specs.declared.cutter.Stop.{Stop}
 use Rattle.mq_calls.specs.declared.commands.Halt.{Halt}
 use Rattle.mq_calls.specs.declared.commands.Halt.TheVariants as halts
+use Rattle.mq_calls.specs.declared.answers.GetAnswer.{GetAnswer}
 use Rattle.mq_calls.specs.declared.deltas.Why.{Why}
 use Rattle.mq_calls.specs.declared.deltas.Why.TheVariants as whys
 use Rattle.mq_message.specs.declared.place.Place.{Place}
@@ -14,13 +15,13 @@ use Rattle.mq_calls.specs.declared.records.Remove.{Remove}
 use Rattle.mq_calls.specs.declared.deltas.Did.{Did}
 use Rattle.mq_calls.specs.declared.state.Connection.{Connection}
 use Rattle.mq_scan.specs.declared.scanning.Met.{Met}
-use Rattle.mq_record.specs.Room.{Buffered}
+use Rattle.mq_unit.specs.from_record.Room.{Buffered}
 use Rattle.mq_unit.specs.Told.{Telling}
-use Rattle.mq_handles.specs.Desks.{Desk}
-use Rattle.mq_handles.specs.Seats.{cursor_set}
+use Rattle.mq_core.specs.from_handles.Desks.{Desk}
+use Rattle.mq_core.specs.from_handles.Seats.{cursor_set}
 use Rattle.mq_core.specs.Views.{PartsValue, plain_of}
 use Rattle.mq_core.specs.Ties.{Tied, mode_is_up}
-use Rattle.mq_core.specs.Forced.{HasMoreRoom, KeepsSeats, roomier_ends}
+use Rattle.mq_core.specs.Forced.{HasMoreRoom, KeepsSeats, roomier_ends, given_back}
 use Rattle.mq_core.specs.Values.{CoreValue, MeetsTold, bodies_in}
 use Rattle.mq_core.proofs.WriteLaws.{roomier_bodies}
 use Rattle.mq_core.proofs.PutLaws.{tied_roomier, roomier_view}
@@ -28,10 +29,10 @@ use Rattle.mq_core.proofs.MeetLaws.{changed_view}
 use Rattle.mq_core.proofs.SeatLaws.{tied_seated, unit_kept, number_is}
 use Rattle.mq_get.specs.declared.leaving.Leaving.{Leaving}
 use Rattle.mq_get.specs.Leaving.{leaving_need, leaving_part, leaving_met, met_ident, removes_met, gone_part, gone_parts}
-use Rattle.mq_get.specs.Rooms.{IsRoomy, IsGivenBack, IsDropped, IsStopped, Drops, gave_back}
-use Rattle.mq_get.specs.Does.{seen, stop_of, HasRun, HasBroken, IsCleared, IsWanting, IsCutOff, Halts, AreDropped, AreStopped, DropsBoth}
+use Rattle.mq_get.specs.Rooms.{IsRoomy, IsGivenBack, IsDropped, IsStopped, Drops}
+use Rattle.mq_get.specs.Does.{seen, stop_of, HasRun, HasBroken, ComesTo, IsCleared, IsWanting, IsCutOff, Halts, AreDropped, AreStopped, DropsBoth}
 use Rattle.mq_get.specs.Does.AreStopped.{First, Then}
-use Rattle.mq_get.proofs.DoesLaws.{run_both, broken_behind, broken_front, broken_meets}
+use Rattle.mq_get.proofs.DoesLaws.{run_both, broken_behind, broken_front, run_meets, broken_meets}
 use Rattle.mq_get.proofs.OutLaws.{wrote, tied_out, dropped_runs, stopped_breaks, stopped_tied, gone_runs, gone_breaks, tied_back}
 use Rattle.mq_get.proofs.HoldLaws.{tied_roomy, roomy_view}
 
@@ -76,7 +77,7 @@ pub roomy_log : (n need : ℕ) (x r : PartsValue) → IsRoomy n x r → need ≤
 roomy_log n need x r h le = let same = roomy_reserved n x r h in omega (arith, same, h.log, le)
 
 -- the room is given back behind the rows that left
-pub back_tied : (n : ℕ) (x r y z : PartsValue) → IsRoomy n x r → mode_is_up x.mode ≡ true → Tied x → Tied y → y.log.reserved ≡ r.log.reserved → r.body.room + length r.body.bytes ≤ y.body.room + length y.body.bytes → z ≡ gave_back n y → Tied z
+pub back_tied : (n : ℕ) (x r y z : PartsValue) → IsRoomy n x r → mode_is_up x.mode ≡ true → Tied x → Tied y → y.log.reserved ≡ r.log.reserved → r.body.room + length r.body.bytes ≤ y.body.room + length y.body.bytes → z ≡ given_back n y → Tied z
 back_tied n x r y z h up t ty reserved body e =
     let was = (t.up up).body in
     let same = roomy_reserved n x r h in
@@ -84,7 +85,7 @@ back_tied n x r y z h up t ty reserved body e =
 
 -- the expired rows have left
 pub cleared : (queue : List ℕ) (mets : List Met) (n : ℕ) (x r mid y : PartsValue) (t u : Telling) (l : Leaving) → l ≡ leaving_met queue mets → n ≡ leaving_need l.removes → t.dids ≡ [] → mode_is_up x.mode ≡ true → Tied x → IsRoomy n x r
-    → IsDropped queue l whys.Expired r t mid u → y ≡ gave_back n mid → IsCleared queue mets x y u
+    → IsDropped queue l whys.Expired r t mid u → y ≡ given_back n mid → IsCleared queue mets x y u
 cleared queue mets n x r mid y t u l is need untold up tied roomy d back =
     let same = seen_roomy n x r t.dids roomy untold in
     let after = dropped_after queue l whys.Expired r t mid u d (roomy_log n (leaving_need l.removes) x r roomy (omega (arith, need))) (tied_roomy n x r roomy tied) in
@@ -129,6 +130,16 @@ pub halt_tied : (parts : List Part) (x y : PartsValue) (u : Telling) (halt : Hal
 halt_tied parts x y u (halts.Refused reason) t h = absurd h
 halt_tied parts x y u halts.NoMemory t h = tied_roomier x y h.room t
 halt_tied parts x y u (halts.Stopped by) t h = h.tied
+
+-- a get comes to its parts, or halts
+pub run_comes : (parts : List Part) (reply : GetAnswer) (x y : PartsValue) (u : Telling) → Tied y → HasRun parts (seen x [] None) (seen y u.dids None) → ComesTo (Do reply parts) x (Ok reply) y u
+run_comes parts reply x y u tied run = record { tied = tied; meets = run_meets parts reply (seen x [] None) (seen y u.dids None) refl refl run }
+
+pub halt_comes : (parts : List Part) (reply : GetAnswer) (x y : PartsValue) (u : Telling) (halt : Halt Reason) → Tied x → Halts parts x halt y u → ComesTo (Do reply parts) x (Err halt) y u
+halt_comes parts reply x y u halt tied h = record { tied = halt_tied parts x y u halt tied h; meets = halt_meets parts x y u reply halt h }
+
+pub wanting_comes : (parts : List Part) (reply : GetAnswer) (x y : PartsValue) (u : Telling) → Tied x → HasMoreRoom x y → u.dids ≡ [] → ComesTo (Do reply parts) x (Err halts.NoMemory) y u
+wanting_comes parts reply x y u tied room untold = halt_comes parts reply x y u halts.NoMemory tied (record { room = room; untold = untold })
 
 -- nothing has changed
 pub more_same : (x : PartsValue) → HasMoreRoom x x
@@ -222,16 +233,16 @@ pub drop_body : (queue : List ℕ) (l : Leaving) (x : PartsValue) (t : Telling) 
 drop_body queue l x t y u d = let w = wrote l.removes x d.written d.writes in let a = ap (λ (z : PartsValue). z.body.room + length z.body.bytes) d.gone in omega (arith, a, w.body)
 
 -- room that is given back is not seen
-pub back_run : (n : ℕ) (v : CoreValue) (parts : List Part) (y z : PartsValue) (told : List Did) → z ≡ gave_back n y → HasRun parts v (seen y told None) → HasRun parts v (seen z told None)
+pub back_run : (n : ℕ) (v : CoreValue) (parts : List Part) (y z : PartsValue) (told : List Did) → z ≡ given_back n y → HasRun parts v (seen y told None) → HasRun parts v (seen z told None)
 back_run n v parts y z told e h = subst (λ (w : PartsValue). HasRun parts v (seen w told None)) (sym e) h
 
 -- room that is given back where memory is wanting
 with_room : PartsValue → Buffered → PartsValue → PartsValue
 with_room y body x = record x { ends = roomier_ends x.ends y.ends; log = record x.log { room = y.log.room; spare = y.log.spare }; body = body }
 
-pub gave_more : (n : ℕ) (x y z : PartsValue) → HasMoreRoom x y → z ≡ gave_back n y → IsGivenBack n x z
+pub gave_more : (n : ℕ) (x y z : PartsValue) → HasMoreRoom x y → z ≡ given_back n y → IsGivenBack n x z
 unfolding with_room
-gave_more n x y z h e = subst (IsGivenBack n x) (sym e) (record { same = ap (with_room y (gave_back n y).body) h.same; log = h.log; spare = h.spare; rows = h.rows; seats = h.seats; body = omega (arith, h.body) })
+gave_more n x y z h e = subst (IsGivenBack n x) (sym e) (record { same = ap (with_room y (given_back n y).body) h.same; log = h.log; spare = h.spare; rows = h.rows; seats = h.seats; body = omega (arith, h.body) })
 
 pub back_more : (n : ℕ) (x y z : PartsValue) → IsRoomy n x y → IsGivenBack n y z → HasMoreRoom x z
 unfolding with_room

@@ -10,7 +10,7 @@ use Rattle.mq_calls.specs.Words.{Row, Plain, is_persistent, is_full}
 use Rattle.mq_calls.specs.declared.answers.Get.{Get}
 use Rattle.mq_calls.specs.declared.state.Connection.{Connection}
 use Rattle.mq_spec_manager.specs.Words.{Scan, looked_at, asked, scan, persistent_rows, expired_need, found_need, scan_need}
-use Rattle.mq_place.specs.States.{QueueState, state_in}
+use Rattle.mq_core.specs.from_place.States.{QueueState, state_in}
 use Rattle.mq_scan.specs.Scans.{scan_of}
 use Rattle.mq_core.specs.Views.{PartsValue, plain_of}
 use Rattle.mq_core.proofs.PlaceLaws.{queue_in_state}

@@ -18,46 +18,49 @@ use Rattle.mq_calls.specs.declared.state.Connection.{Connection}
 use Rattle.mq_spec_manager.specs.Words.{got_answer, is_destructive, is_under, is_waiting, without_row, live_or, for_connection, persistent_rows, expired_need}
 use Rattle.mq_scan.specs.declared.scanning.Met.{Met}
 use Rattle.mq_scan.specs.Scans.{met_of}
+use Rattle.mq_unit.specs.Told.{Telling}
+use Rattle.mq_core.specs.Views.{PartsValue}
 use Rattle.mq_core.specs.Values.{CoreValue, MeetsTold, WritesLog, begun_call, manager_of}
 use Rattle.mq_core.proofs.SeatLaws.{number_is}
 use Rattle.mq_get.specs.declared.refusals.Aim.{Aim}
 use Rattle.mq_get.specs.declared.finding.Hit.{Hit}
 use Rattle.mq_get.specs.declared.finding.Plan.{Plan as Planned}
+use Rattle.mq_get.specs.Does.{ComesTo}
 use Rattle.mq_get.specs.Leaving.{gone_part, gone_parts, held_part, leaving_need, removes_met}
 use Rattle.mq_get.specs.Gets.{IsPlan, look, hit_of, hit_step, hit_part, taken_part, plan_step, aimed, get_at}
 use Rattle.mq_get.proofs.GetLaws.{short_mets}
 
-module _ (get : Get) (number : ℕ) (aim : Aim) (hit : Hit) (before : List Part) (v w : CoreValue) (r : Result GetAnswer (Halt Reason)) (answer : Answer Got) (is : answer ≡ got_answer hit.long hit.got) where
-  told : (p : Part) → hit_part get number aim hit ≡ p → MeetsTold v (Do (Done answer) (before ++ p ∷ [])) r w → MeetsTold v (hit_step false get number aim hit before) r w
-  told p e m = subst (λ (q : Part). MeetsTold v (Do (Done (got_answer hit.long hit.got)) (before ++ q ∷ [])) r w) (sym e) (subst (λ (a : Answer Got). MeetsTold v (Do (Done a) (before ++ p ∷ [])) r w) is m)
+module _ (get : Get) (number : ℕ) (aim : Aim) (hit : Hit) (before : List Part) (x y : PartsValue) (u : Telling) (r : Result GetAnswer (Halt Reason)) (answer : Answer Got) (is : answer ≡ got_answer hit.long hit.got) where
+  told : (p : Part) → hit_part get number aim hit ≡ p → ComesTo (Do (Done answer) (before ++ p ∷ [])) x r y u → ComesTo (hit_step false get number aim hit before) x r y u
+  told p e m = subst (λ (q : Part). ComesTo (Do (Done (got_answer hit.long hit.got)) (before ++ q ∷ [])) x r y u) (sym e) (subst (λ (a : Answer Got). ComesTo (Do (Done a) (before ++ p ∷ [])) x r y u) is m)
 
-  pub hit_browsed : is_destructive get.take ≡ false → MeetsTold v (Do (Done answer) (before ++ silent (SetCursor number aim.handle hit.place ∷ []) ∷ [])) r w → MeetsTold v (hit_step false get number aim hit before) r w
+  pub hit_browsed : is_destructive get.take ≡ false → ComesTo (Do (Done answer) (before ++ silent (SetCursor number aim.handle hit.place ∷ []) ∷ [])) x r y u → ComesTo (hit_step false get number aim hit before) x r y u
   hit_browsed free = told (silent (SetCursor number aim.handle hit.place ∷ [])) (ap (λ (b : Bool). cond b (taken_part get.sync number aim.queue hit.met) (silent (SetCursor number aim.handle hit.place ∷ []))) free)
 
-  pub hit_held : is_destructive get.take ≡ true → get.sync ≡ true → MeetsTold v (Do (Done answer) (before ++ held_part number aim.queue hit.met ∷ [])) r w → MeetsTold v (hit_step false get number aim hit before) r w
+  pub hit_held : is_destructive get.take ≡ true → get.sync ≡ true → ComesTo (Do (Done answer) (before ++ held_part number aim.queue hit.met ∷ [])) x r y u → ComesTo (hit_step false get number aim hit before) x r y u
   hit_held takes sync = told (held_part number aim.queue hit.met)
       (ap (λ (b : Bool). cond b (taken_part get.sync number aim.queue hit.met) (silent (SetCursor number aim.handle hit.place ∷ []))) takes ∙ ap (λ (b : Bool). taken_part b number aim.queue hit.met) sync)
 
-  pub hit_taken : is_destructive get.take ≡ true → get.sync ≡ false → MeetsTold v (Do (Done answer) (before ++ gone_part whys.Got aim.queue (hit.met ∷ []) ∷ [])) r w → MeetsTold v (hit_step false get number aim hit before) r w
+  pub hit_taken : is_destructive get.take ≡ true → get.sync ≡ false → ComesTo (Do (Done answer) (before ++ gone_part whys.Got aim.queue (hit.met ∷ []) ∷ [])) x r y u → ComesTo (hit_step false get number aim hit before) x r y u
   hit_taken takes sync = told (gone_part whys.Got aim.queue (hit.met ∷ []))
       (ap (λ (b : Bool). cond b (taken_part get.sync number aim.queue hit.met) (silent (SetCursor number aim.handle hit.place ∷ []))) takes ∙ ap (λ (b : Bool). taken_part b number aim.queue hit.met) sync)
 
 -- a row that doesn't fit
-pub hit_left : (b : Bool) (get : Get) (number : ℕ) (aim : Aim) (hit : Hit) (before : List Part) (v w : CoreValue) (r : Result GetAnswer (Halt Reason)) → b ≡ true → MeetsTold v (Do (Done (answers.Warning reasons.TruncatedMessageFailed hit.got)) before) r w → MeetsTold v (hit_step b get number aim hit before) r w
-hit_left b get number aim hit before v w r e m = subst (λ (b : Bool). MeetsTold v (hit_step b get number aim hit before) r w) (sym e) m
+pub hit_left : (b : Bool) (get : Get) (number : ℕ) (aim : Aim) (hit : Hit) (before : List Part) (x y : PartsValue) (u : Telling) (r : Result GetAnswer (Halt Reason)) → b ≡ true → ComesTo (Do (Done (answers.Warning reasons.TruncatedMessageFailed hit.got)) before) x r y u → ComesTo (hit_step b get number aim hit before) x r y u
+hit_left b get number aim hit before x y u r e m = subst (λ (b : Bool). ComesTo (hit_step b get number aim hit before) x r y u) (sym e) m
 
-pub hit_fits : (b : Bool) (get : Get) (number : ℕ) (aim : Aim) (hit : Hit) (before : List Part) (v w : CoreValue) (r : Result GetAnswer (Halt Reason)) → b ≡ false → MeetsTold v (hit_step false get number aim hit before) r w → MeetsTold v (hit_step b get number aim hit before) r w
-hit_fits b get number aim hit before v w r e m = subst (λ (b : Bool). MeetsTold v (hit_step b get number aim hit before) r w) (sym e) m
+pub hit_fits : (b : Bool) (get : Get) (number : ℕ) (aim : Aim) (hit : Hit) (before : List Part) (x y : PartsValue) (u : Telling) (r : Result GetAnswer (Halt Reason)) → b ≡ false → ComesTo (hit_step false get number aim hit before) x r y u → ComesTo (hit_step b get number aim hit before) x r y u
+hit_fits b get number aim hit before x y u r e m = subst (λ (b : Bool). ComesTo (hit_step b get number aim hit before) x r y u) (sym e) m
 
 -- no row
-pub none_under : (under waiting : Bool) (before : List Part) (v w : CoreValue) (r : Result GetAnswer (Halt Reason)) → under ≡ true → MeetsTold v (Do (Done (answers.Failed reasons.NoMessageUnderCursor)) before) r w → MeetsTold v (without_row under waiting before) r w
-none_under under waiting before v w r e m = subst (λ (b : Bool). MeetsTold v (without_row b waiting before) r w) (sym e) m
+pub none_under : (under waiting : Bool) (before : List Part) (x y : PartsValue) (u : Telling) (r : Result GetAnswer (Halt Reason)) → under ≡ true → ComesTo (Do (Done (answers.Failed reasons.NoMessageUnderCursor)) before) x r y u → ComesTo (without_row under waiting before) x r y u
+none_under under waiting before x y u r e m = subst (λ (b : Bool). ComesTo (without_row b waiting before) x r y u) (sym e) m
 
-pub none_waits : (under waiting : Bool) (before : List Part) (v w : CoreValue) (r : Result GetAnswer (Halt Reason)) → under ≡ false → waiting ≡ true → MeetsTold v (Do NotYet []) r w → MeetsTold v (without_row under waiting before) r w
-none_waits under waiting before v w r e f m = subst (λ (b : Bool). MeetsTold v (without_row b waiting before) r w) (sym e) (subst (λ (b : Bool). MeetsTold v (without_row false b before) r w) (sym f) m)
+pub none_waits : (under waiting : Bool) (before : List Part) (x y : PartsValue) (u : Telling) (r : Result GetAnswer (Halt Reason)) → under ≡ false → waiting ≡ true → ComesTo (Do NotYet []) x r y u → ComesTo (without_row under waiting before) x r y u
+none_waits under waiting before x y u r e f m = subst (λ (b : Bool). ComesTo (without_row b waiting before) x r y u) (sym e) (subst (λ (b : Bool). ComesTo (without_row false b before) x r y u) (sym f) m)
 
-pub none_there : (under waiting : Bool) (before : List Part) (v w : CoreValue) (r : Result GetAnswer (Halt Reason)) → under ≡ false → waiting ≡ false → MeetsTold v (Do (Done (answers.Failed reasons.NoMessageAvailable)) before) r w → MeetsTold v (without_row under waiting before) r w
-none_there under waiting before v w r e f m = subst (λ (b : Bool). MeetsTold v (without_row b waiting before) r w) (sym e) (subst (λ (b : Bool). MeetsTold v (without_row false b before) r w) (sym f) m)
+pub none_there : (under waiting : Bool) (before : List Part) (x y : PartsValue) (u : Telling) (r : Result GetAnswer (Halt Reason)) → under ≡ false → waiting ≡ false → ComesTo (Do (Done (answers.Failed reasons.NoMessageAvailable)) before) x r y u → ComesTo (without_row under waiting before) x r y u
+none_there under waiting before x y u r e f m = subst (λ (b : Bool). ComesTo (without_row b waiting before) x r y u) (sym e) (subst (λ (b : Bool). ComesTo (without_row false b before) x r y u) (sym f) m)
 
 -- a call that begins has changed nothing
 begun_meets : {T : Type 0} (step : Step Reason T) (v w : ManagerValue) (r : Result T (Halt Reason)) → Meets (untouched v) step r w → Meets v step r w

@@ -1,21 +1,22 @@
 -- Parts of a call that were done, or the write of one of them was stopped: what a manager then is.
-use Rattle.std.specs.Prelude.{◌≡◌, ℕ, ◌-◌, ◌≤◌, List, [], ◌++◌, Option, Some, None, Result, Ok, Err}
+use Rattle.std.specs.Prelude.{◌≡◌, ℕ, ◌-◌, ◌^◌, ◌<◌, ◌≤◌, true, List, [], ◌++◌, Option, Some, None, Result, Ok, Err}
 use Rattle.mq_base.specs.Outside.{Rose}
 use Rattle.mq_disk.specs.declared.cutter.Stop.{Stop}
 use Rattle.mq_disk.specs.declared.cutter.Stop.TheVariants as stops
 use Rattle.mq_calls.specs.declared.commands.Halt.{Halt}
 use Rattle.mq_calls.specs.declared.commands.Halt.TheVariants as halts
-use Rattle.mq_calls.specs.Words.{Reason, Part, Ran, IsWrite, StopsAt, do_all, delta_of, delta_before, stopped_at, write_calls, calls_at, calls_before}
+use Rattle.mq_calls.specs.Words.{Reason, Part, Step, Ran, IsWrite, StopsAt, do_all, delta_of, delta_before, stopped_at, write_calls, calls_at, calls_before}
+use Rattle.mq_calls.specs.declared.answers.GetAnswer.{GetAnswer}
 use Rattle.mq_calls.specs.declared.deltas.Did.{Did}
 use Rattle.mq_calls.specs.declared.deltas.Why.TheVariants as whys
 use Rattle.mq_scan.specs.declared.scanning.Met.{Met}
 use Rattle.mq_unit.specs.Told.{Telling}
 use Rattle.mq_core.specs.Views.{PartsValue, plain_of}
-use Rattle.mq_core.specs.Ties.{Tied}
-use Rattle.mq_core.specs.Values.{CoreValue, AreRecords, AreRecordsTo, bodies_in, wrote_all, broke_at}
+use Rattle.mq_core.specs.Ties.{Tied, mode_is_up}
+use Rattle.mq_core.specs.Values.{CoreValue, MeetsTold, AreRecords, AreRecordsTo, bodies_in, wrote_all, broke_at}
 use Rattle.mq_core.specs.Forced.{HasMoreRoom}
 use Rattle.mq_get.specs.declared.leaving.Leaving.{Leaving}
-use Rattle.mq_get.specs.Leaving.{gone_parts}
+use Rattle.mq_get.specs.Leaving.{gone_parts, leaving_need, removes_met}
 use Rattle.mq_get.specs.Rooms.{IsDropped, IsStopped}
 
 -- what is seen of a manager's parts in a call
@@ -52,6 +53,18 @@ stop_of (Ok value) = None
 stop_of (Err (halts.Refused reason)) = None
 stop_of (Err halts.NoMemory) = None
 stop_of (Err (halts.Stopped by)) = Some by
+
+-- of a manager that is up, in a call that told nothing yet, the expired rows that a scan met may leave by one record
+pub record MayClear (queue : List ℕ) (mets : List Met) (x : PartsValue) (u : Telling) : Type 0 where
+  pub tied : Tied x
+  pub up : mode_is_up x.mode ≡ true
+  pub told : u.dids ≡ []
+  pub short : leaving_need (removes_met queue mets) < 2 ^ 32
+
+-- a get comes to its step, and its manager's parts are tied
+pub record ComesTo (step : Step Reason GetAnswer) (x : PartsValue) (result : Result GetAnswer (Halt Reason)) (y : PartsValue) (u : Telling) : Type 0 where
+  pub tied : Tied y
+  pub meets : MeetsTold (seen x [] None) step result (seen y u.dids (stop_of result))
 
 -- the expired rows have left, or their write was stopped, or there was no memory; connections are the same
 pub record IsCleared (queue : List ℕ) (mets : List Met) (x y : PartsValue) (u : Telling) : Type 0 where

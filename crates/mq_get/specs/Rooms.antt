@@ -9,13 +9,13 @@ use Rattle.mq_calls.specs.declared.deltas.Why.{Why}
 use Rattle.mq_calls.specs.declared.records.LogRecord.TheVariants as records
 use Rattle.mq_calls.specs.declared.deltas.Did.TheVariants as did
 use Rattle.mq_unit.specs.Told.{Telling, told, told_all}
-use Rattle.mq_handles.specs.Seats.{pended, given_up}
-use Rattle.mq_place.specs.States.{on_queues}
-use Rattle.mq_place.specs.Rooms.{RoomStays}
+use Rattle.mq_core.specs.from_handles.Seats.{pended, given_up}
+use Rattle.mq_core.specs.from_place.States.{on_queues}
+use Rattle.mq_core.specs.from_place.Rooms.{RoomStays}
 use Rattle.mq_core.specs.declared.parts.StoppedWrite.TheVariants as writes
 use Rattle.mq_core.specs.Views.{PartsValue}
 use Rattle.mq_core.specs.Placing.{with_states}
-use Rattle.mq_core.specs.Forced.{IsForced, KeepsSeats, downed, returned, roomier_ends}
+use Rattle.mq_core.specs.Forced.{IsForced, KeepsSeats, downed, given_back, returned, roomier_ends}
 use Rattle.mq_calls.specs.declared.deltas.Why.TheVariants as whys
 use Rattle.mq_scan.specs.declared.scanning.Met.{Met}
 use Rattle.mq_get.specs.declared.leaving.Leaving.{Leaving}
@@ -26,10 +26,6 @@ pub record IsRoomy (need : ℕ) (x y : PartsValue) : Type 0 where
   pub more : x.log.room ≤ y.log.room
   pub log : x.log.reserved + need ≤ y.log.room
   pub body : x.body.room + length x.body.bytes + need ≤ y.body.room + length y.body.bytes
-
--- it is given back
-abbrev pub gave_back : ℕ → PartsValue → PartsValue
-gave_back need x = record x { body = record { bytes = []; room = x.body.room + length x.body.bytes - need } }
 
 -- memory was taken for some, and so much room was given back
 pub record IsGivenBack (n : ℕ) (x y : PartsValue) : Type 0 where

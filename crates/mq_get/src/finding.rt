@@ -6,15 +6,15 @@ ghost use Rattle.mq_scan.specs.Scans.{scan_of, met_of};
 ghost use Rattle.mq_core.specs.Views.{plain_of};
 ghost use Rattle.mq_get.specs.Gets.{hit_of, IsPlan};
 
-use crate::reading::{got, is_persistent, is_too_long};
+use crate::reading::{got, is_too_long};
 use crate::refusals::Aim;
 use mq_base::{Items, NoMemory};
 use mq_calls::{Get, Got};
 use mq_core::Parts;
+use mq_core::below::LocalRows;
 use mq_disk::Disk;
 use mq_message::Place;
-use mq_place::LocalRows;
-use mq_queue::{Queue, Row};
+use mq_queue::{Queue, Row, is_persistent};
 use mq_scan::{Met, scan};
 use std::alloc::Global;
 

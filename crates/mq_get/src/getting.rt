@@ -1,27 +1,27 @@
 //! MQGET.
-ghost use Rattle.std.specs.Prelude.{◌≡◌, ◌+◌, ◌∷◌, ◌++◌, ◌&&◌, [], ◌<◌, ◌≤◌, ◌^◌, true, false, not, None, IsSome, length};
+ghost use Rattle.std.specs.Prelude.{◌≡◌, ◌+◌, ◌∷◌, ◌++◌, ◌&&◌, [], ◌<◌, ◌≤◌, ◌^◌, true, false, not, IsSome, length};
 ghost use Rattle.mq_calls.specs.State.{Plain};
 ghost use Rattle.mq_calls.specs.declared.deltas.Why.TheVariants as whys;
 ghost use Rattle.mq_calls.specs.State.Change.{SetCursor};
 ghost use Rattle.mq_calls.specs.Words.{Meets, Do, connection_at, change_connection, is_up, silent};
-ghost use Rattle.mq_handles.specs.Seats.{cursor_set};
+ghost use Rattle.mq_core.specs.from_handles.Seats.{cursor_set};
 ghost use Rattle.mq_spec_manager.specs.Words.{mqget, got_answer, is_under, is_waiting, without_row, persistent_rows, expired_need};
 ghost use Rattle.mq_core.specs.Views.{plain_of};
 ghost use Rattle.mq_core.specs.Ties.{Tied, mode_is_up};
 ghost use Rattle.mq_core.specs.Values.{MeetsTold, WritesLog, manager_of};
-ghost use Rattle.mq_get.specs.Does.{seen, stop_of, Clears, DropsBoth};
+ghost use Rattle.mq_get.specs.Does.{MayClear, ComesTo, stop_of, Clears, DropsBoth};
 ghost use Rattle.mq_get.specs.Gets.{get_at, look, plan_step, hit_step};
 ghost use Rattle.mq_get.specs.Leaving.{gone_part, gone_parts, leaving_need, removes_met};
 
 use crate::finding::{Hit, Plan, look};
 use crate::holding::get_held;
-use crate::leaving::{Leaving, drop_rows, give_back, leaving_need, leaving_of, make_room};
+use crate::leaving::{Leaving, drop_rows, leaving_need, leaving_of, make_room};
 use crate::refusals::{Aim, can_get};
 use crate::takes::{is_destructive, is_under};
 use mq_base::{NoMemory, QName};
 use mq_calls::{Answer, Get, GetAnswer, Got, Halt, Hconn, Hobj, Why};
 use mq_codes::Reason;
-use mq_core::{Core, Parts};
+use mq_core::{Core, Parts, return_room};
 use mq_disk::{Disk, Stop};
 use mq_message::Place;
 use mq_scan::Met;
@@ -72,7 +72,7 @@ pub fn drop_expired<D: Disk>(
     }
     match drop_rows(parts, effects, queue, leaving, Why::Expired) {
         Ok(()) => {
-            give_back(parts, need);
+            return_room(parts, need);
             Ok(())
         }
         Err(stop) => Err(Halt::Stopped(stop)),
@@ -87,12 +87,8 @@ fn answer_behind<D: Disk>(
     mets: &[Met],
     answer: GetAnswer,
 ) -> Result<GetAnswer, Halt<Reason>>
-    requires tied { Tied parts.old }
-    requires up { mode_is_up parts.old.mode ≡ true }
-    requires told { effects.old.dids ≡ [] }
-    requires short { leaving_need (removes_met queue.now mets.now) < 2 ^ 32 }
-    ensures tied { Tied parts.new }
-    ensures meets { MeetsTold (seen parts.old [] None) (Do answer (gone_parts whys.Expired queue.now mets.now)) result (seen parts.new effects.new.dids (stop_of result)) }
+    requires { MayClear queue.now mets.now parts.old effects.old }
+    ensures { ComesTo (Do answer (gone_parts whys.Expired queue.now mets.now)) parts.old result parts.new effects.new }
 {
     match drop_expired(parts, effects, queue, mets) {
         Ok(()) => Ok(answer),
@@ -117,13 +113,9 @@ fn get_browsed<D: Disk>(
     place: Place,
     answer: GetAnswer,
 ) -> Result<GetAnswer, Halt<Reason>>
-    requires tied { Tied parts.old }
-    requires up { mode_is_up parts.old.mode ≡ true }
+    requires may { MayClear aim.now.queue mets.now parts.old effects.old }
     requires live { IsSome (connection_at number parts.old.desk.live) }
-    requires told { effects.old.dids ≡ [] }
-    requires short { leaving_need (removes_met aim.now.queue mets.now) < 2 ^ 32 }
-    ensures tied { Tied parts.new }
-    ensures meets { MeetsTold (seen parts.old [] None) (Do answer (gone_parts whys.Expired aim.now.queue mets.now ++ silent (SetCursor number aim.now.handle place ∷ []) ∷ [])) result (seen parts.new effects.new.dids (stop_of result)) }
+    ensures { ComesTo (Do answer (gone_parts whys.Expired aim.now.queue mets.now ++ silent (SetCursor number aim.now.handle place ∷ []) ∷ [])) parts.old result parts.new effects.new }
 {
     match drop_expired(parts, effects, &aim.queue, mets) {
         Ok(()) => {
@@ -166,12 +158,8 @@ fn get_taken<D: Disk>(
     met: Met,
     answer: GetAnswer,
 ) -> Result<GetAnswer, Halt<Reason>>
-    requires tied { Tied parts.old }
-    requires up { mode_is_up parts.old.mode ≡ true }
-    requires told { effects.old.dids ≡ [] }
-    requires short { leaving_need (removes_met queue.now mets.now) < 2 ^ 32 }
-    ensures tied { Tied parts.new }
-    ensures meets { MeetsTold (seen parts.old [] None) (Do answer (gone_parts whys.Expired queue.now mets.now ++ gone_part whys.Got queue.now (met ∷ []) ∷ [])) result (seen parts.new effects.new.dids (stop_of result)) }
+    requires { MayClear queue.now mets.now parts.old effects.old }
+    ensures { ComesTo (Do answer (gone_parts whys.Expired queue.now mets.now ++ gone_part whys.Got queue.now (met ∷ []) ∷ [])) parts.old result parts.new effects.new }
 {
     let gone = match leaving_of(parts.alloc, queue, mets) {
         Ok(leaving) => leaving,
@@ -191,7 +179,7 @@ fn get_taken<D: Disk>(
     }
     match drop_both(parts, effects, queue, gone, taken) {
         Ok(()) => {
-            give_back(parts, need);
+            return_room(parts, need);
             Ok(answer)
         }
         Err(stop) => Err(Halt::Stopped(stop)),
@@ -208,13 +196,9 @@ fn get_hit<D: Disk>(
     mets: &[Met],
     hit: Hit,
 ) -> Result<GetAnswer, Halt<Reason>>
-    requires tied { Tied parts.old }
-    requires up { mode_is_up parts.old.mode ≡ true }
+    requires may { MayClear aim.now.queue mets.now parts.old effects.old }
     requires live { IsSome (connection_at number parts.old.desk.live) }
-    requires told { effects.old.dids ≡ [] }
-    requires short { leaving_need (removes_met aim.now.queue mets.now) < 2 ^ 32 }
-    ensures tied { Tied parts.new }
-    ensures meets { MeetsTold (seen parts.old [] None) (hit_step false get.now number aim.now hit (gone_parts whys.Expired aim.now.queue mets.now)) result (seen parts.new effects.new.dids (stop_of result)) }
+    ensures { ComesTo (hit_step false get.now number aim.now hit (gone_parts whys.Expired aim.now.queue mets.now)) parts.old result parts.new effects.new }
 {
     let Hit {
         met,
@@ -249,13 +233,9 @@ fn get_found<D: Disk>(
     mets: &[Met],
     hit: Hit,
 ) -> Result<GetAnswer, Halt<Reason>>
-    requires tied { Tied parts.old }
-    requires up { mode_is_up parts.old.mode ≡ true }
+    requires may { MayClear aim.now.queue mets.now parts.old effects.old }
     requires live { IsSome (connection_at number parts.old.desk.live) }
-    requires told { effects.old.dids ≡ [] }
-    requires short { leaving_need (removes_met aim.now.queue mets.now) < 2 ^ 32 }
-    ensures tied { Tied parts.new }
-    ensures meets { MeetsTold (seen parts.old [] None) (hit_step (hit.long && not get.now.truncate) get.now number aim.now hit (gone_parts whys.Expired aim.now.queue mets.now)) result (seen parts.new effects.new.dids (stop_of result)) }
+    ensures { ComesTo (hit_step (hit.long && not get.now.truncate) get.now number aim.now hit (gone_parts whys.Expired aim.now.queue mets.now)) parts.old result parts.new effects.new }
 {
     if is_left(&hit, get) {
         let answer = Answer::Warning(Reason::TruncatedMessageFailed, hit.got);
@@ -273,12 +253,8 @@ fn get_none<D: Disk>(
     until: Option<u64>,
     mets: &[Met],
 ) -> Result<GetAnswer, Halt<Reason>>
-    requires tied { Tied parts.old }
-    requires up { mode_is_up parts.old.mode ≡ true }
-    requires told { effects.old.dids ≡ [] }
-    requires short { leaving_need (removes_met queue.now mets.now) < 2 ^ 32 }
-    ensures tied { Tied parts.new }
-    ensures meets { MeetsTold (seen parts.old [] None) (without_row (is_under get.now.take) (is_waiting until (plain_of parts.old)) (gone_parts whys.Expired queue.now mets.now)) result (seen parts.new effects.new.dids (stop_of result)) }
+    requires { MayClear queue.now mets.now parts.old effects.old }
+    ensures { ComesTo (without_row (is_under get.now.take) (is_waiting until (plain_of parts.old)) (gone_parts whys.Expired queue.now mets.now)) parts.old result parts.new effects.new }
 {
     if is_under(&get.take) {
         let answer = GetAnswer::Done(Answer::Failed(Reason::NoMessageUnderCursor));
@@ -301,13 +277,9 @@ fn do_get<D: Disk>(
     until: Option<u64>,
     plan: Plan,
 ) -> Result<GetAnswer, Halt<Reason>>
-    requires tied { Tied parts.old }
-    requires up { mode_is_up parts.old.mode ≡ true }
+    requires may { MayClear aim.now.queue plan.mets parts.old effects.old }
     requires live { IsSome (connection_at number parts.old.desk.live) }
-    requires told { effects.old.dids ≡ [] }
-    requires short { leaving_need (removes_met aim.now.queue plan.mets) < 2 ^ 32 }
-    ensures tied { Tied parts.new }
-    ensures meets { MeetsTold (seen parts.old [] None) (plan_step get.now until (plain_of parts.old) number aim.now plan.mets plan.hit) result (seen parts.new effects.new.dids (stop_of result)) }
+    ensures { ComesTo (plan_step get.now until (plain_of parts.old) number aim.now plan.mets plan.hit) parts.old result parts.new effects.new }
 {
     let Plan { mets, hit } = plan;
     match hit {

@@ -1,5 +1,5 @@
 //! A row that a get holds for the unit of its connection.
-ghost use Rattle.std.specs.Prelude.{◌≡◌, ◌+◌, ◌∷◌, ◌++◌, [], ◌<◌, ◌≤◌, ◌^◌, true, false, None, IsSome, IfSome, OnOk, OnErr, length};
+ghost use Rattle.std.specs.Prelude.{◌≡◌, ◌+◌, ◌∷◌, ◌++◌, [], ◌<◌, ◌≤◌, ◌^◌, true, false, IsSome, IfSome, OnOk, OnErr, length};
 ghost use Rattle.mq_calls.specs.declared.deltas.Why.TheVariants as whys;
 ghost use Rattle.mq_calls.specs.declared.state.Item.TheVariants.{Take};
 ghost use Rattle.mq_calls.specs.Words.{Do, connection_at, more_need, unit_need};
@@ -7,20 +7,17 @@ ghost use Rattle.mq_message.specs.declared.place.Holder.TheVariants as holders;
 ghost use Rattle.mq_calls.specs.declared.deltas.Did.TheVariants as did;
 ghost use Rattle.mq_unit.specs.Told.{told};
 ghost use Rattle.mq_core.specs.Forced.{HasMoreRoom};
-ghost use Rattle.mq_core.specs.Ties.{Tied, mode_is_up};
-ghost use Rattle.mq_core.specs.Values.{MeetsTold};
-ghost use Rattle.mq_get.specs.Does.{seen, stop_of};
-ghost use Rattle.mq_get.specs.Leaving.{gone_parts, held_part, leaving_need, removes_met};
+ghost use Rattle.mq_get.specs.Does.{MayClear, ComesTo};
+ghost use Rattle.mq_get.specs.Leaving.{gone_parts, held_part, leaving_need};
 ghost use Rattle.mq_get.specs.Rooms.{IsGivenBack, IsItemMore, Holds, holding, unheld};
 
 use crate::leaving::{
-    Leaving, force_leaving, give_back, go_down_leaving, leaving_need, leaving_of, make_room,
-    take_out,
+    Leaving, force_leaving, go_down_leaving, leaving_need, leaving_of, make_room, take_out,
 };
 use mq_base::{NoMemory, QName};
 use mq_calls::{Did, GetAnswer, Halt, Item, Why};
 use mq_codes::Reason;
-use mq_core::Parts;
+use mq_core::{Parts, return_room};
 use mq_disk::{Disk, Stop};
 use mq_message::Holder;
 use mq_scan::Met;
@@ -91,7 +88,7 @@ fn pend_in_room<D: Disk>(
     match pend_take(parts, number, queue, met, need) {
         Ok(()) => Ok(()),
         Err(NoMemory) => {
-            give_back(parts, room);
+            return_room(parts, room);
             Err(NoMemory)
         }
     }
@@ -170,13 +167,9 @@ pub(crate) fn get_held<D: Disk>(
     met: Met,
     answer: GetAnswer,
 ) -> Result<GetAnswer, Halt<Reason>>
-    requires tied { Tied parts.old }
-    requires up { mode_is_up parts.old.mode ≡ true }
+    requires may { MayClear queue.now mets.now parts.old effects.old }
     requires live { IsSome (connection_at number parts.old.desk.live) }
-    requires told { effects.old.dids ≡ [] }
-    requires short { leaving_need (removes_met queue.now mets.now) < 2 ^ 32 }
-    ensures tied { Tied parts.new }
-    ensures meets { MeetsTold (seen parts.old [] None) (Do answer (gone_parts whys.Expired queue.now mets.now ++ held_part number queue.now met ∷ [])) result (seen parts.new effects.new.dids (stop_of result)) }
+    ensures { ComesTo (Do answer (gone_parts whys.Expired queue.now mets.now ++ held_part number queue.now met ∷ [])) parts.old result parts.new effects.new }
 {
     let leaving = match leaving_of(parts.alloc, queue, mets) {
         Ok(leaving) => leaving,
@@ -197,7 +190,7 @@ pub(crate) fn get_held<D: Disk>(
     }
     match hold_behind(parts, effects, number, queue, leaving, met, need) {
         Ok(()) => {
-            give_back(parts, room);
+            return_room(parts, room);
             Ok(answer)
         }
         Err(stop) => Err(Halt::Stopped(stop)),

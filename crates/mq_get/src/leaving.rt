@@ -5,21 +5,21 @@ ghost use Rattle.mq_message.specs.declared.message.Ident.{Ident};
 ghost use Rattle.mq_calls.specs.declared.deltas.Did.TheVariants as did;
 ghost use Rattle.mq_calls.specs.declared.records.LogRecord.TheVariants as records;
 ghost use Rattle.mq_calls.specs.Words.{need, record_size};
-ghost use Rattle.mq_record.specs.Records.{remove_bytes, IsRemove};
-ghost use Rattle.mq_record.specs.Room.{with_piece};
+ghost use Rattle.mq_unit.specs.from_record.Records.{remove_bytes, IsRemove};
+ghost use Rattle.mq_unit.specs.from_record.Room.{with_piece};
 ghost use Rattle.mq_unit.specs.Told.{told_all};
 ghost use Rattle.mq_core.specs.Forced.{IsForced, HasMoreRoom};
 ghost use Rattle.mq_get.specs.Leaving.{leaving_met, leaving_need, removes_met, met_ident};
-ghost use Rattle.mq_get.specs.Rooms.{IsRoomy, Writes, Drops, out_of, downed_out, gave_back};
+ghost use Rattle.mq_get.specs.Rooms.{IsRoomy, Writes, Drops, out_of, downed_out};
 
 use mq_base::{Items, NoMemory, QName};
 use mq_calls::{Did, Remove, Why};
 use mq_core::{Mode, Parts, StoppedWrite};
 use mq_disk::{Disk, Stop};
 use mq_message::Ident;
-use mq_record::{Buffer, unit_front};
 use mq_scan::Met;
 use mq_unit::Effects;
+use mq_unit::below::{Buffer, unit_front};
 use std::alloc::Global;
 
 /// Rows that leave a queue.
@@ -135,15 +135,6 @@ pub(crate) fn make_room<D: Disk>(
         Err(NoMemory) => return Err(NoMemory),
     }
     make_record_room(parts, need)
-}
-
-/// Room for records is given back.
-pub(crate) fn give_back<D: Disk>(parts: &mut Parts<D>, need: u64)
-    requires { need ≤ parts.old.body.room + length parts.old.body.bytes }
-    ensures { parts.new ≡ gave_back need parts.old }
-{
-    parts.body.clear();
-    parts.body.give_back(need as usize);
 }
 
 fn put_removes(body: &mut Buffer, removes: &[Remove])

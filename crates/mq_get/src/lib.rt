@@ -1,6 +1,7 @@
 //! MQGET of one queue manager.
 #![tactic(auto)]
 
+pub mod below;
 mod finding;
 mod getting;
 mod holding;

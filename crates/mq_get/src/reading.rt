@@ -1,7 +1,6 @@
 //! What an application reads of a message: on a transmission queue a message behind its header.
 ghost use Rattle.std.specs.Prelude.{◌≡◌, ◌++◌, length, take, IfOk};
 ghost use Rattle.mq_heads.specs.Headers.{xqh_bytes};
-ghost use Rattle.mq_queue.specs.Rows.{is_persistent};
 ghost use Rattle.mq_spec_manager.specs.Heads.{xqh_of};
 ghost use Rattle.mq_spec_manager.specs.Words.{read_body, read_md, length_of, got, is_too_long, is_left};
 
@@ -13,13 +12,6 @@ use std::alloc::Global;
 
 /// Format of a message behind the header of a transmission queue.
 const TRANSMITTED: [u8; 8] = *b"MQXMIT  ";
-
-/// Whether its message outlives a stop.
-pub(crate) fn is_persistent(message: &Message) -> bool
-    ensures { result ≡ is_persistent message.now }
-{
-    message.md.persistence == 1
-}
 
 /// Whether it is longer than the caller's room.
 pub(crate) fn is_too_long(get: &Get, message: &Message) -> bool

@@ -3,25 +3,25 @@ ghost use Rattle.std.specs.Prelude.{◌≡◌, ℕ, ◌+◌, ◌<◌, ◌≤◌,
 ghost use Rattle.std.specs.List.{list_any};
 ghost use Rattle.mq_queue.specs.declared.row.Row.{Row};
 ghost use Rattle.mq_calls.specs.Words.{is_full, is_up, refusal};
-ghost use Rattle.mq_spec_manager.specs.Words.{sync_full, is_get_disabled, mqget, expired_need, taking_need, found_need, scan_need, get_tests};
+ghost use Rattle.mq_spec_manager.specs.Words.{is_get_disabled, mqget, expired_need, taking_need, found_need, scan_need, get_tests};
 ghost use Rattle.mq_spec_manager.specs.Get.{is_disabled_at};
 ghost use Rattle.mq_core.specs.Views.{plain_of};
 ghost use Rattle.mq_core.specs.Ties.{Tied};
 ghost use Rattle.mq_get.specs.Gets.{Gets, Looks, aim_of, look};
 
-use crate::reading::{is_left, is_persistent};
+use crate::reading::is_left;
 use crate::survey::survey;
 use crate::takes::{is_destructive, needs_browse};
 use mq_base::QName;
 use mq_calls::{Get, Handle, Hconn, Hobj};
 use mq_codes::Reason;
-use mq_core::{Parts, is_input};
+use mq_core::below::Seat;
+use mq_core::{Parts, is_input, is_sync_full};
 use mq_disk::Disk;
 use mq_fill::queue_at;
-use mq_handles::Seat;
 use mq_message::Place;
 use mq_objects::{Defs, Object};
-use mq_queue::Row;
+use mq_queue::{Row, is_persistent};
 use mq_resolve::PathStep;
 
 /// Where a get looks.
@@ -70,13 +70,6 @@ fn is_inhibited(defs: &Defs, path: &[PathStep]) -> bool
     ensures { result ≡ list_any (is_disabled_at defs.now.definitions) path.now }
 {
     path.iter().any(|step| is_disabled_at(defs, step))
-}
-
-/// The unit has as many messages as it may.
-fn is_sync_full<D: Disk>(parts: &Parts<D>, sync: bool, seat: &Seat) -> bool
-    ensures { result ≡ sync_full sync seat.now (plain_of parts.now) }
-{
-    sync && parts.defs.manager().max_uncommitted as usize <= seat.unit().len()
 }
 
 /// What so many expired rows that last need of the log.

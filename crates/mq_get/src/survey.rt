@@ -4,35 +4,15 @@ ghost use Rattle.mq_queue.specs.Rows.{is_free};
 ghost use Rattle.mq_calls.specs.State.{Plain};
 ghost use Rattle.mq_calls.specs.Reads.{is_past};
 ghost use Rattle.mq_spec_manager.specs.Get.{any_id, is_at, persistent_rows};
-ghost use Rattle.mq_place.specs.States.{rows_after};
+ghost use Rattle.mq_core.specs.from_place.States.{rows_after};
 ghost use Rattle.mq_scan.specs.Scans.{scan_of, scanned_at, start_of};
 
-use crate::reading::is_persistent;
 use crate::takes::is_under;
 use mq_calls::{Get, Take};
+use mq_core::below::{LocalRows, is_past};
 use mq_message::{Place, Want};
-use mq_place::LocalRows;
-use mq_queue::{Queue, Row};
-
-/// Whether no unit and no batch holds it.
-fn is_free(row: &Row) -> bool
-    ensures { result ≡ is_free row.now }
-{
-    match row.by {
-        None => true,
-        Some(_) => false,
-    }
-}
-
-/// Whether the deadline is there and has come.
-fn is_past(moment: u64, deadline: Option<u64>) -> bool
-    ensures { result ≡ is_past moment deadline }
-{
-    match deadline {
-        None => false,
-        Some(deadline) => deadline <= moment,
-    }
-}
+use mq_queue::{Queue, Row, is_free, is_persistent};
+use mq_scan::{row_under, start_of};
 
 /// One more where the row's message is persistent.
 fn count_lasting(row: &Row, lasting: u64) -> u64
@@ -71,17 +51,6 @@ fn survey_from<'a, Q: Queue + Drop>(
     None
 }
 
-// The row under a cursor, where one is set.
-fn row_under<'a, Q: Queue + Drop>(local: &'a LocalRows<Q>, cursor: Option<Place>) -> Option<&'a Row>
-    ensures { option_to_list (option_copied result) ≡ filter (is_at cursor) local.now.queue.rows }
-{
-    let _len = local.len();
-    match cursor {
-        None => None,
-        Some(place) => local.at(place),
-    }
-}
-
 fn survey_one<'a>(row: &'a Row, moment: u64, lasting: &mut u64) -> Option<&'a Row>
     requires { lasting.old ≡ 0 }
     ensures found { option_copied result ≡ (scanned_at any_id moment (row.now ∷ [])).found }
@@ -110,16 +79,6 @@ fn survey_under<'a, Q: Queue + Drop>(
     match row_under(local, cursor) {
         None => None,
         Some(row) => survey_one(row, moment, lasting),
-    }
-}
-
-// The place behind which a scan begins; none for the front.
-fn start_of(take: &Take, cursor: Option<Place>) -> Option<Place>
-    ensures { result ≡ start_of take.now cursor }
-{
-    match take {
-        Take::Next | Take::BrowseFirst => None,
-        Take::BrowseNext | Take::UnderCursor | Take::BrowseUnder => cursor,
     }
 }
 

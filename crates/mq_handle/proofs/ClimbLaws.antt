@@ -24,9 +24,9 @@ use Rattle.mq_spec_manager.specs.Moves.{bare_if, move_part, move_full, move_reso
 use Rattle.mq_spec_manager.specs.Agents.{row_with}
 use Rattle.mq_spec_node.specs.Terms.{Actor, Call, Choice, Runs, NoMemory, Stopped, Dest, Entry, Ident, Message, Part, Plain, Reason, Rule, Running, Up, Down, Step, Refuse, Do}
 use Rattle.mq_spec_node.specs.Words.{Deed, Handler, Node, Own, acted, done, event, choice_event, forward_to, handler_in, handler_on, handler_row, handler_turn, in_force, input_queue, is_readable, moved, next_letter, retry_to, rule_in_force, ruled, failed_of, tries_of, where_up, done_by}
-use Rattle.mq_law_image.specs.Bounds.{all_growth}
-use Rattle.mq_law_counts.specs.Counts.{Climbs, PartsClimb, StepClimbs}
-use Rattle.mq_law_counts.proofs.Climbing.{grown, none_climb, one_climbs, stay}
+use Rattle.mq_events.specs.from_law_image.Bounds.{all_growth}
+use Rattle.mq_events.specs.from_law_counts.Counts.{Climbs, PartsClimb, StepClimbs}
+use Rattle.mq_events.proofs.from_law_counts.Climbing.{grown, none_climb, one_climbs, stay}
 use Rattle.mq_law_manager.proofs.ShortSteps.{tested_all}
 use Rattle.mq_events.specs.States.{IsKept, NodeState, Spare, node_in}
 use Rattle.mq_events.specs.Counts.{AreCounted, IsNode, KeepsCounts, kept_total}

@@ -16,10 +16,10 @@ use Rattle.mq_spec_manager.specs.Words.{is_dead}
 use Rattle.mq_spec_manager.specs.Agents.{CanMove, IsUp, is_ordinary, next_row}
 use Rattle.mq_spec_node.specs.Words.{Handler, input_queue, is_readable, is_due, is_handled, is_letter, next_letter, tries_of}
 use Rattle.mq_law_manager.specs.Facts.{Differ, IsSound, Mem, ident_of}
-use Rattle.mq_law_manager.proofs.Lists.{bool_case, ident_self, ident_yes}
+use Rattle.mq_law_manager.proofs.Lists.{bool_case, same_self, ident_yes}
 use Rattle.mq_law_manager.proofs.Steps.{free_is}
-use Rattle.mq_manager.specs.Facts.{IsWell}
-use Rattle.mq_agents.specs.Ends.{place_and_message}
+use Rattle.mq_events.specs.from_manager.Facts.{IsWell}
+use Rattle.mq_moves.specs.from_agents.Ends.{place_and_message}
 use Rattle.mq_handle.specs.declared.finding.DueLetter.{DueLetter}
 use Rattle.mq_handle.specs.Letters.{takes, letter_of, letter_at, letter_on, letter_up, letter_by}
 
@@ -147,7 +147,7 @@ found_in test (r ∷ rows) x e = bool_case (test r) (λ t. test r ≡ t → cond
 
 found_one : (rows : List Row) (x : Row) → Differ ident_of rows → Mem x rows → find (has_ident x.message.ident) rows ≡ Some x
 found_one [] x d n = absurd n
-found_one (r ∷ rows) x d (inl e) = ap (λ t. cond t (Some r) (find (has_ident x.message.ident) rows)) (ap (λ (y : Row). same_ident y.message.ident x.message.ident) (sym e) ∙ ident_self x.message.ident) ∙ ap (λ y. Some y) (sym e)
+found_one (r ∷ rows) x d (inl e) = ap (λ t. cond t (Some r) (find (has_ident x.message.ident) rows)) (ap (λ (y : Row). same_ident y.message.ident x.message.ident) (sym e) ∙ same_self x.message.ident) ∙ ap (λ y. Some y) (sym e)
 found_one (r ∷ rows) x d (inr n) = bool_case (same_ident r.message.ident x.message.ident) (λ t. same_ident r.message.ident x.message.ident ≡ t → cond t (Some r) (find (has_ident x.message.ident) rows) ≡ Some x)
     (λ z w. absurd (d.0 x n (ident_yes r.message.ident x.message.ident w))) (λ z w. found_one rows x d.1 n) refl
 

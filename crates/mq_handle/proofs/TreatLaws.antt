@@ -27,7 +27,7 @@ use Rattle.mq_spec_manager.specs.Agents.{row_with}
 use Rattle.mq_spec_node.specs.Terms.{Choice, Runs, Stopped, Dest, Did, Ident, Message, Part, Plain, Reason, Reply, Step, Refuse, Do, Stop, Table, delta_before, stopped_at}
 use Rattle.mq_spec_node.specs.Words.{Handler, Own, Tried, CanCome, is_tried, node_of, tried_as}
 use Rattle.mq_core.specs.Values.{CoreValue, manager_of}
-use Rattle.mq_agents.specs.Ends.{by_agent, by_place}
+use Rattle.mq_moves.specs.from_agents.Ends.{by_agent, by_place}
 use Rattle.mq_events.specs.declared.outcome.Outcome.{Outcome}
 use Rattle.mq_events.specs.Outcomes.{Came}
 use Rattle.mq_events.specs.Disks.{RoseBy}

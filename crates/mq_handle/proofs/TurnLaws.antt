@@ -30,7 +30,7 @@ use Rattle.mq_handle.specs.declared.finding.DueLetter.{DueLetter}
 use Rattle.mq_handle.specs.declared.turning.DueTurn.{DueTurn}
 use Rattle.mq_handle.specs.declared.choosing.Ruling.TheVariants as rulings
 use Rattle.mq_handle.specs.Rulings.{ruling, ruling_by, ruling_in, ruling_of, sent_to}
-use Rattle.mq_manager.specs.Facts.{IsWell}
+use Rattle.mq_events.specs.from_manager.Facts.{IsWell}
 use Rattle.mq_handle.proofs.LetterLaws.{letter_can}
 use Rattle.mq_handle.specs.Letters.{letter_at, letter_by, letter_on, letter_up}
 use Rattle.mq_handle.specs.Treatments.{Treatment, Treated, TreatsAt, Untreated, at_place, deed_by, handler_after, ignoring, later, moving, treatment, treatment_of, with_parts}

@@ -3,7 +3,7 @@ ghost use Rattle.std.specs.Prelude.{◌≡◌, ◌<◌, ℕ, Bool, [], length};
 ghost use Rattle.mq_core.specs.Values.{CoreValue};
 ghost use Rattle.mq_spec_node.specs.Node as nodes;
 ghost use Rattle.mq_spec_manager.specs.Agents.{CanMove, HasFreeRow, IsUp};
-ghost use Rattle.mq_manager.specs.Facts.{MayCount};
+ghost use Rattle.mq_events.specs.from_manager.Facts.{MayCount};
 ghost use Rattle.mq_handle.specs.declared.choosing.Ruling.TheVariants as rulings;
 ghost use Rattle.mq_handle.specs.Treatments.{TreatsAs, TreatsAt, by_stop, choice_of, discarded, moved, reply_of, treatment, treatment_of};
 
@@ -14,8 +14,8 @@ use mq_base::{Items, NoMemory, QName};
 use mq_calls::{AgentStop, Choice, PlaceFault};
 use mq_disk::{Disk, Stop};
 use mq_events::Outcome;
+use mq_events::below::Manager;
 use mq_history::Reply;
-use mq_manager::Manager;
 use mq_message::Ident;
 use mq_own::Handler;
 use std::alloc::Global;

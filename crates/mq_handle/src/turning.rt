@@ -13,9 +13,9 @@ use crate::finding::{DueLetter, find_letter};
 use crate::treating::treat_at;
 use mq_base::NoMemory;
 use mq_disk::Disk;
+use mq_events::below::Manager;
 use mq_events::{Node, NodeParts, Outcome};
 use mq_history::{Actor, Call};
-use mq_manager::Manager;
 use mq_own::Handler;
 
 /// A handler's turn: which of the node's handlers takes it, and its dead letter.

@@ -1,9 +1,9 @@
 -- Counts by name, and what steps and handles add to them one after the other.
-use Rattle.std.proofs.Common.{◌≡◌, ℕ, zero, suc, ◌+◌, ◌<◌, ◌≤◌, Bool, true, false, cond, List, [], ◌∷◌, ◌++◌, length, get_or, take, drop, refl, ap, arith, sym, ◌∙◌, add-one}
-use Rattle.std.specs.Prelude.{Some, map, slice_get, slice_set}
+use Rattle.std.proofs.Common.{◌≡◌, ℕ, zero, suc, ◌+◌, ◌<◌, ◌≤◌, Bool, true, false, cond, List, [], ◌∷◌, length, get_or, take, refl, ap, arith, sym, ◌∙◌, add-one}
+use Rattle.std.specs.Prelude.{Some, slice_get}
 use Rattle.std.specs.Str.{bytes_eq}
 use Rattle.std.specs.Cmp.Lexicographic.{nat_list_eq_equiv}
-use Rattle.mq_resolve.specs.declared.route.PathStep.TheVariants as steps
+use Rattle.mq_calls.specs.from_resolve.PathStepVariants as steps
 use Rattle.mq_calls.specs.Words.{PathStep}
 use Rattle.mq_calls.specs.declared.state.Handle.{Handle}
 use Rattle.mq_handles.specs.declared.users.Count.{Count}
@@ -61,33 +61,8 @@ handle_part hs n key = sum_part (handle_weight key) (weight_of (handle_weight ke
 pub handle_all : (hs : List Handle) (key : Key) → weight_of (handle_weight key) (take (length hs) hs) ≡ weight_of (handle_weight key) hs
 handle_all hs key = sum_all (handle_weight key) (weight_of (handle_weight key)) refl (λ x xs. refl) hs
 
--- ---- a list that is changed from its front on
-
-pub mapped_first : {X : Type 0} → (X → X) → ℕ → List X → List X
-mapped_first f n xs = map f (take n xs) ++ drop n xs
-
-mapped_suc : {X : Type 0} (f : X → X) (xs : List X) (i : ℕ) (old : X) → i < length xs → slice_get (map f (take i xs) ++ drop i xs) i ≡ Some old → slice_set (map f (take i xs) ++ drop i xs) i (f old) ≡ map f (take (suc i) xs) ++ drop (suc i) xs
-mapped_suc f [] i old lt e = absurd (omega (arith, lt))
-mapped_suc f (x ∷ xs) zero old lt e = grind (arith)
-mapped_suc f (x ∷ xs) (suc i) old lt e = grind (arith, mapped_suc f xs i old)
-
+-- what stands at a place
 pub got : {X : Type 0} (xs : List X) (i : ℕ) (d : X) → i < length xs → d ≡ get_or xs i d → slice_get xs i ≡ Some d
 got [] i d lt e = absurd (omega (arith, lt))
 got (x ∷ xs) zero d lt e = grind (arith, e)
 got (x ∷ xs) (suc i) d lt e = let rest = got xs i d (omega (arith, lt)) e in grind (arith, rest)
-
-pub mapped_next : {X : Type 0} (f : X → X) (xs ys : List X) (i : ℕ) (old new : X) → ys ≡ map f (take i xs) ++ drop i xs → i < length xs → slice_get ys i ≡ Some old → new ≡ f old → slice_set ys i new ≡ map f (take (i + 1) xs) ++ drop (i + 1) xs
-mapped_next f xs ys i old new so_far lt e is =
-    ap (slice_set ys i) is ∙ ap (λ (l : List _). slice_set l i (f old)) so_far
-    ∙ mapped_suc f xs i old lt (ap (λ (l : List _). slice_get l i) (sym so_far) ∙ e)
-    ∙ ap (λ (n : ℕ). map f (take n xs) ++ drop n xs) (sym (add-one i))
-
-pub mapped_all : {X : Type 0} (f : X → X) (xs : List X) → map f (take (length xs) xs) ++ drop (length xs) xs ≡ map f xs
-mapped_all f [] = refl
-mapped_all f (x ∷ xs) = ap (λ (l : List _). f x ∷ l) (mapped_all f xs)
-
-pub mapped_long : {X : Type 0} (f : X → X) (xs : List X) (i : ℕ) → length (map f (take i xs) ++ drop i xs) ≡ length xs
-mapped_long f [] zero = refl
-mapped_long f [] (suc i) = refl
-mapped_long f (x ∷ xs) zero = refl
-mapped_long f (x ∷ xs) (suc i) = omega (arith, mapped_long f xs i)

@@ -6,8 +6,8 @@ use Rattle.std.proofs.lemmas.Bool.Decides.{nat_tests}
 use Rattle.std.specs.Prelude.{◌&&◌}
 use Rattle.std.specs.Str.{bytes_eq}
 use Rattle.mq_calls.specs.declared.answers.Input.TheVariants as inputs
-use Rattle.mq_resolve.specs.declared.route.PathStep.TheVariants as steps
-use Rattle.mq_resolve.specs.declared.route.RouteEnd.TheVariants as ends
+use Rattle.mq_calls.specs.from_resolve.PathStepVariants as steps
+use Rattle.mq_calls.specs.from_resolve.RouteEndVariants as ends
 use Rattle.mq_calls.specs.Words.{RouteEnd, PathStep, any_handle, is_step, has_step, is_input, is_exclusive, leads_to}
 use Rattle.mq_calls.specs.declared.state.Handle.{Handle}
 use Rattle.mq_calls.specs.declared.state.Connection.{Connection}

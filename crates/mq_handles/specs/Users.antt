@@ -3,8 +3,8 @@ use Rattle.std.specs.Prelude.{◌≡◌, ℕ, ◌+◌, ◌≤◌, ◌&&◌, Bool
 use Rattle.std.specs.Str.{bytes_eq}
 use Rattle.std.specs.HashMap.{get}
 use Rattle.mq_calls.specs.declared.answers.Input.TheVariants as inputs
-use Rattle.mq_resolve.specs.declared.route.PathStep.TheVariants as steps
-use Rattle.mq_resolve.specs.declared.route.RouteEnd.TheVariants as ends
+use Rattle.mq_calls.specs.from_resolve.PathStepVariants as steps
+use Rattle.mq_calls.specs.from_resolve.RouteEndVariants as ends
 use Rattle.mq_calls.specs.Words.{RouteEnd, PathStep, is_input, is_exclusive, leads_to}
 use Rattle.mq_calls.specs.declared.answers.Input.{Input}
 use Rattle.mq_calls.specs.declared.answers.Open.{Open}

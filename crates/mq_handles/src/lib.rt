@@ -2,10 +2,12 @@
 //! by its name.
 #![tactic(auto)]
 
+pub mod below;
 mod live;
 mod numbers;
 mod seat;
 mod users;
 
 pub use live::Live;
+pub use numbers::place_of_handle;
 pub use seat::Seat;

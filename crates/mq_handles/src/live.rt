@@ -3,7 +3,7 @@ ghost use Rattle.std.specs.Prelude.{◌≡◌, ◌==◌, ◌+◌, ◌^◌, ◌<�
 ghost use Rattle.std.specs.List.{list_any};
 ghost use Rattle.mq_calls.specs.Words.{connection_at, any_handle, has_step, change_connection, made_stale, unit_need};
 ghost use Rattle.mq_calls.specs.declared.state.Connection.{Connection};
-ghost use Rattle.mq_spec_manager.specs.Handles.{new_handle};
+ghost use Rattle.mq_unit.specs.from_spec_manager.Handles.{new_handle};
 ghost use Rattle.mq_unit.specs.Forced.{IsEnded};
 ghost use Rattle.mq_handles.specs.Rising.{AreRising, connection_number, has_number};
 ghost use Rattle.mq_handles.specs.Seats.{connection_of, opened, closed, cursor_set, pended, given_up, emptied, has_put};
@@ -13,10 +13,10 @@ use crate::numbers::place_of_connection;
 use crate::seat::Seat;
 use crate::users::Users;
 use mq_base::{Items, NoMemory, QName};
+use mq_calls::below::{PathStep, Route};
 use mq_calls::{Appl, Item, Open};
-use mq_message::{Ident, Place};
-use mq_resolve::{PathStep, Route};
 use mq_unit::Ended;
+use mq_unit::below::{Ident, Place};
 use std::alloc::Global;
 use std::marker::Model;
 

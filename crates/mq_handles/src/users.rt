@@ -7,8 +7,8 @@ ghost use Rattle.mq_handles.specs.Users.Key.{Reader, Alone, OnPath};
 ghost use Rattle.mq_handles.specs.Users.{Key, no_count, count_in, input_count, one_step, plus, name_weight, reader_weight, path_weight, weight_by, handle_weight, weight_of, key_weight, tally, AreAmong, IsPartOf, IsMore, IsSame, IsPut, IsLess};
 
 use mq_base::{NoMemory, QName};
+use mq_calls::below::{PathStep, RouteEnd};
 use mq_calls::{Handle, Input, Open};
-use mq_resolve::{PathStep, RouteEnd};
 use std::alloc::Global;
 use std::collections::HashMap;
 

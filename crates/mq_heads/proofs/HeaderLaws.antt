@@ -3,14 +3,14 @@ use Rattle.std.proofs.Common.{◌≡◌, ℕ, zero, suc, ◌≤◌, ◌++◌, Li
 use Rattle.std.specs.Prelude.{Option, Some, None, Ok, Err, IfOk, nat_lt}
 use Rattle.std.proofs.lemmas.Bool.{ltb-false}
 use Rattle.std.proofs.lemmas.List.{take_all}
-use Rattle.mq_base.proofs.Numbers.{AreBytes}
+use Rattle.mq_message.proofs.from_base.Numbers.{AreBytes}
 use Rattle.mq_message.specs.declared.head.HeadFault.{HeadFault}
 use Rattle.mq_message.specs.declared.message.Md.{Md}
 use Rattle.mq_message.specs.Layout.{long_bytes, long_of, part, written, values_in, AllFit, Values}
 use Rattle.mq_message.specs.Descriptor.{md_bytes, md_in, md_read, head_fault, id_fault, or_short, unless}
 use Rattle.mq_message.proofs.TableLaws.{values_back, bytes_again, length-written, length-part}
 use Rattle.mq_message.proofs.DescriptorLaws.{md_bytes-md_in}
-use Rattle.mq_message.proofs.HeadLaws.{Heads, heads_of_none, not_short}
+use Rattle.mq_message.proofs.HeadLaws.{Heads, heads_of_none, not_short, behind_head, read_back, read_exact}
 use Rattle.mq_heads.specs.declared.headers.Xqh.{Xqh}
 use Rattle.mq_heads.specs.declared.headers.Dlh.{Dlh}
 use Rattle.mq_heads.specs.declared.headers.Tm.{Tm}
@@ -19,56 +19,27 @@ use Rattle.mq_heads.specs.Headers.{xqh_fields, xqh_values, xqh_with, xqh_bytes, 
 pub record DlhFits (h : Dlh) : Type 0 where
   pub all : AllFit dlh_fields (dlh_values h)
 
-length-dlh_bytes : (h : Dlh) → DlhFits h → length (dlh_bytes h) ≡ 172
-unfolding dlh_bytes
-length-dlh_bytes h fits = length-written dlh_fields 0 (dlh_values h) refl fits.all
-
-dlh_in-dlh_bytes : (h : Dlh) (rest : List ℕ) → DlhFits h → dlh_in (dlh_bytes h ++ rest) ≡ h
-unfolding dlh_in dlh_bytes
-dlh_in-dlh_bytes h rest fits = ap dlh_with (values_back dlh_fields 0 [] rest (dlh_values h) refl refl fits.all)
-
 dlh_id : (h : Dlh) (rest : List ℕ) → id_fault (codes "DLH ") 0 (dlh_bytes h ++ rest) ≡ None
 unfolding dlh_bytes long_bytes long_of
 dlh_id h rest = refl
 
 -- it is read from bytes that begin with its own
 pub dlh_read-dlh_bytes : (h : Dlh) (rest : List ℕ) → DlhFits h → dlh_read (dlh_bytes h ++ rest) ≡ Ok h
-unfolding dlh_read
+unfolding dlh_read dlh_in dlh_bytes
 dlh_read-dlh_bytes h rest fits =
-    let bytes : List ℕ = dlh_bytes h ++ rest in
-    let long : 172 ≤ length bytes = let a = length-append (dlh_bytes h) rest in let b = length-dlh_bytes h fits in omega arith in
-    let fault : head_fault 172 (codes "DLH ") bytes ≡ None = not_short 172 (length bytes) (id_fault (codes "DLH ") 0 bytes) long ∙ dlh_id h rest in
-    rw (fault, dlh_in-dlh_bytes h rest fits) refl
-
-dlh_values-dlh_with : (v : Values dlh_fields) → v.0 ≡ codes "DLH " → v.1.0 ≡ pos 1 → dlh_values (dlh_with v) ≡ v
-dlh_values-dlh_with v id version = λ i. (sym id i, (sym version i, v.1.1))
-
-dlh_bytes-dlh_in : (bytes : List ℕ) → AreBytes bytes → 172 ≤ length bytes → Heads (codes "DLH ") 0 bytes → dlh_bytes (dlh_in bytes) ≡ take 172 bytes
-unfolding dlh_bytes dlh_in
-dlh_bytes-dlh_in bytes small long heads =
-    ap (written dlh_fields) (dlh_values-dlh_with (values_in dlh_fields bytes) heads.id_stands heads.version_is_one) ∙ bytes_again dlh_fields 0 bytes refl small long
-
-dlh_exact_by : (bytes : List ℕ) (short : Bool) (fault : Option HeadFault) → AreBytes bytes → (short ≡ false → 172 ≤ length bytes) → (fault ≡ None → Heads (codes "DLH ") 0 bytes) → IfOk (unless (or_short short fault) (dlh_in bytes)) (λ h. dlh_bytes h ≡ take 172 bytes)
-dlh_exact_by bytes true fault small long heads = search
-dlh_exact_by bytes false (Some fault) small long heads = search
-dlh_exact_by bytes false None small long heads = dlh_bytes-dlh_in bytes small (long refl) (heads refl)
+    let len : length (dlh_bytes h) ≡ 172 = length-written dlh_fields 0 (dlh_values h) refl fits.all in
+    let found : dlh_in (dlh_bytes h ++ rest) ≡ h = ap dlh_with (values_back dlh_fields 0 [] rest (dlh_values h) refl refl fits.all) in
+    read_back 172 (codes "DLH ") (dlh_bytes h) rest (dlh_in (dlh_bytes h ++ rest)) h len (dlh_id h rest) found
 
 -- what is read has these bytes
 pub dlh_read_exact : (bytes : List ℕ) → AreBytes bytes → IfOk (dlh_read bytes) (λ h. dlh_bytes h ≡ take 172 bytes)
-unfolding dlh_read
+unfolding dlh_read dlh_in dlh_bytes
 dlh_read_exact bytes small =
-    dlh_exact_by bytes (nat_lt (length bytes) 172) (id_fault (codes "DLH ") 0 bytes) small (λ e. ltb-false (length bytes) 172 e) (λ e. heads_of_none (codes "DLH ") 0 bytes e)
+    read_exact 172 (codes "DLH ") bytes dlh_bytes (dlh_in bytes) (λ long heads.
+    ap (written dlh_fields) (behind_head (codes "DLH ") (values_in dlh_fields bytes) heads.id_stands heads.version_is_one) ∙ bytes_again dlh_fields 0 bytes refl small long)
 
 pub record TmFits (h : Tm) : Type 0 where
   pub all : AllFit tm_fields (tm_values h)
-
-length-tm_bytes : (h : Tm) → TmFits h → length (tm_bytes h) ≡ 684
-unfolding tm_bytes
-length-tm_bytes h fits = length-written tm_fields 0 (tm_values h) refl fits.all
-
-tm_in-tm_bytes : (h : Tm) (rest : List ℕ) → TmFits h → tm_in (tm_bytes h ++ rest) ≡ h
-unfolding tm_in tm_bytes
-tm_in-tm_bytes h rest fits = ap tm_with (values_back tm_fields 0 [] rest (tm_values h) refl refl fits.all)
 
 tm_id : (h : Tm) (rest : List ℕ) → id_fault (codes "TM  ") 0 (tm_bytes h ++ rest) ≡ None
 unfolding tm_bytes long_bytes long_of
@@ -76,31 +47,18 @@ tm_id h rest = refl
 
 -- it is read from bytes that begin with its own
 pub tm_read-tm_bytes : (h : Tm) (rest : List ℕ) → TmFits h → tm_read (tm_bytes h ++ rest) ≡ Ok h
-unfolding tm_read
+unfolding tm_read tm_in tm_bytes
 tm_read-tm_bytes h rest fits =
-    let bytes : List ℕ = tm_bytes h ++ rest in
-    let long : 684 ≤ length bytes = let a = length-append (tm_bytes h) rest in let b = length-tm_bytes h fits in omega arith in
-    let fault : head_fault 684 (codes "TM  ") bytes ≡ None = not_short 684 (length bytes) (id_fault (codes "TM  ") 0 bytes) long ∙ tm_id h rest in
-    rw (fault, tm_in-tm_bytes h rest fits) refl
-
-tm_values-tm_with : (v : Values tm_fields) → v.0 ≡ codes "TM  " → v.1.0 ≡ pos 1 → tm_values (tm_with v) ≡ v
-tm_values-tm_with v id version = λ i. (sym id i, (sym version i, v.1.1))
-
-tm_bytes-tm_in : (bytes : List ℕ) → AreBytes bytes → 684 ≤ length bytes → Heads (codes "TM  ") 0 bytes → tm_bytes (tm_in bytes) ≡ take 684 bytes
-unfolding tm_bytes tm_in
-tm_bytes-tm_in bytes small long heads =
-    ap (written tm_fields) (tm_values-tm_with (values_in tm_fields bytes) heads.id_stands heads.version_is_one) ∙ bytes_again tm_fields 0 bytes refl small long
-
-tm_exact_by : (bytes : List ℕ) (short : Bool) (fault : Option HeadFault) → AreBytes bytes → (short ≡ false → 684 ≤ length bytes) → (fault ≡ None → Heads (codes "TM  ") 0 bytes) → IfOk (unless (or_short short fault) (tm_in bytes)) (λ h. tm_bytes h ≡ take 684 bytes)
-tm_exact_by bytes true fault small long heads = search
-tm_exact_by bytes false (Some fault) small long heads = search
-tm_exact_by bytes false None small long heads = tm_bytes-tm_in bytes small (long refl) (heads refl)
+    let len : length (tm_bytes h) ≡ 684 = length-written tm_fields 0 (tm_values h) refl fits.all in
+    let found : tm_in (tm_bytes h ++ rest) ≡ h = ap tm_with (values_back tm_fields 0 [] rest (tm_values h) refl refl fits.all) in
+    read_back 684 (codes "TM  ") (tm_bytes h) rest (tm_in (tm_bytes h ++ rest)) h len (tm_id h rest) found
 
 -- what is read has these bytes
 pub tm_read_exact : (bytes : List ℕ) → AreBytes bytes → IfOk (tm_read bytes) (λ h. tm_bytes h ≡ take 684 bytes)
-unfolding tm_read
+unfolding tm_read tm_in tm_bytes
 tm_read_exact bytes small =
-    tm_exact_by bytes (nat_lt (length bytes) 684) (id_fault (codes "TM  ") 0 bytes) small (λ e. ltb-false (length bytes) 684 e) (λ e. heads_of_none (codes "TM  ") 0 bytes e)
+    read_exact 684 (codes "TM  ") bytes tm_bytes (tm_in bytes) (λ long heads.
+    ap (written tm_fields) (behind_head (codes "TM  ") (values_in tm_fields bytes) heads.id_stands heads.version_is_one) ∙ bytes_again tm_fields 0 bytes refl small long)
 
 -- a header whose values fit, and whose descriptor is read back from its own bytes
 pub record XqhFits (h : Xqh) : Type 0 where

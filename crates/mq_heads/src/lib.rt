@@ -2,6 +2,7 @@
 //! trigger messages, written and read by the manual's layout.
 #![tactic(auto)]
 
+pub mod below;
 mod dead_letter;
 mod headers;
 mod transmission;

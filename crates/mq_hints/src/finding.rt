@@ -3,12 +3,12 @@
 use crate::usage::{Slot, Usage};
 use mq_base::QName;
 use mq_history::Scenario;
-use mq_scn_heading::cable_faults;
 use mq_scn_lines::{
     LineFault, OPEN_OPTIONS, are_options, bracketed, channel_in, label_in, name_in,
     name_or_blank_in,
 };
 use mq_scn_script::{get_options, put_options};
+use mq_scn_text::below::cable_faults;
 use std::alloc::Global;
 
 /// What is looked for.

@@ -1,1 +1,12 @@
 pub mod Scenarios
+pub mod from_base
+pub mod from_cable
+pub mod from_calls
+pub mod from_disk
+pub mod from_frame
+pub mod from_message
+pub mod from_objects
+pub mod from_queue
+pub mod from_resolve
+pub mod from_rules
+pub mod from_sc_parse

@@ -1,12 +1,11 @@
 //! Events as a history keeps them: who acts, what is called, what came from outside, what was answered and what it did.
 use crate::acts::{Act, Acted};
-use mq_base::QName;
+use mq_cable::below::{Bytes, Md};
+use mq_calls::below::{QName, Stop};
 use mq_calls::{
     Answer, Appl, Choice, Delta, Get, Got, Hconn, Hobj, Image, Messages, Open, Return, Sent,
 };
-use mq_disk::Stop;
 use mq_frame::{Frame, Seen};
-use mq_message::{Bytes, Md};
 
 /// Who acts. Numbers are places in the scenario: of the script, of the cable for a channel's end, of
 /// the rules table for a handler, of the monitor.

@@ -1,7 +1,7 @@
 //! What happened at one manager: its opening, its entries in order, and its marks.
 use crate::calls::Entry;
-use mq_base::{Items, QName};
 use mq_calls::Image;
+use mq_calls::below::{Items, QName};
 
 /// A step's end.
 #[derive(Clone, Copy)]

@@ -3,6 +3,7 @@
 #![tactic(auto)]
 
 mod acts;
+pub mod below;
 mod calls;
 mod history;
 mod scenario;

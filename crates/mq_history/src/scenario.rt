@@ -1,7 +1,7 @@
 //! A scenario: managers, cables, sections of commands, rules tables, scripts, monitors and steps.
 use crate::scripts::ScriptLine;
-use mq_base::{ChName, Items, Label, QName};
 use mq_cable::Faults;
+use mq_calls::below::{ChName, Items, Label, QName};
 use mq_rules::Table;
 use mq_sc_parse::Command;
 

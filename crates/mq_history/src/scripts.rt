@@ -1,7 +1,7 @@
 //! The lines of a script.
-use mq_base::{Label, QName};
+use mq_cable::below::{Bytes, Want};
+use mq_calls::below::{Label, QName};
 use mq_calls::{Open, Take};
-use mq_message::{Bytes, Want};
 use mq_sc_parse::Command;
 
 /// The body of a put.

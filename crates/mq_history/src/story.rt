@@ -1,10 +1,8 @@
 //! What a story shows: an operator's settlement at odds with its receiver, logs that don't belong together, and
 //! where rows stand.
-use mq_base::{ChName, Items, QName};
+use mq_cable::below::Ident;
 use mq_calls::Shelf;
-use mq_message::Ident;
-use mq_objects::Definitions;
-use mq_sync::Unit;
+use mq_calls::below::{ChName, Definitions, Items, QName, Unit};
 
 /// The first operator's settlement that the receiver doesn't bear out.
 #[derive(Clone, Copy)]

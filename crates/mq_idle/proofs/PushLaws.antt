@@ -16,6 +16,7 @@ use Rattle.mq_message.specs.declared.place.Holder.{Holder}
 use Rattle.mq_message.specs.declared.place.Holder.TheVariants as holders
 use Rattle.mq_queue.specs.declared.row.Row.{Row}
 use Rattle.mq_queue.specs.Rows.{has_ident, is_free, retag, same_ident}
+use Rattle.mq_queue.proofs.Edits.{same_self}
 use Rattle.mq_receiver.specs.declared.turns.ReceiverDoes.{ReceiverDoes}
 use Rattle.mq_receiver.specs.declared.turns.ReceiverDoes.TheVariants as takes
 use Rattle.mq_receiver.specs.After.{last_by}
@@ -48,8 +49,6 @@ use Rattle.mq_law_manager.proofs.Named.{batch_set, name_self}
 use Rattle.mq_idle.specs.Idle.{begins_unit, pushes_in}
 
 -- A BATCH THAT IS BEGUN
-self_ident : (i : Ident) → same_ident i i ≡ true
-self_ident i = grind (arith, nat_tests)
 
 -- a row that is retagged keeps its message
 kept_message : (b : Bool) (o : Option Holder) (row : Row) → (retag_if b o row).message ≡ row.message
@@ -75,7 +74,7 @@ first_found change (row ∷ rows) rest first keeps e = by (is_free row) e (λ f.
     by true f later =
         let same : row ≡ first = cc in
         some_found (has_ident first.message.ident (change row)) (change row) (find (has_ident first.message.ident) (retag change rows)) (λ no_.
-        let z : true ≡ false = sym (self_ident first.message.ident) ∙ ap (λ (m : Message). same_ident m.ident first.message.ident) (ap (λ (x : Row). x.message) (sym same) ∙ sym (keeps row)) ∙ no_ in absurd cc)
+        let z : true ≡ false = sym (same_self first.message.ident) ∙ ap (λ (m : Message). same_ident m.ident first.message.ident) (ap (λ (x : Row). x.message) (sym same) ∙ sym (keeps row)) ∙ no_ in absurd cc)
     by false f later = some_found (has_ident first.message.ident (change row)) (change row) (find (has_ident first.message.ident) (retag change rows)) (λ z. later f)
 
 some_map : {A B : Type 0} (f : A → B) (o : Option A) → is_some (option_map f o) ≡ is_some o

@@ -259,7 +259,7 @@ one_up j i = omega arith
 from_zero : (i : ℕ) → i ≡ 0 + i
 from_zero i = omega arith
 
-all_idle : (w : Network) (cs : List CableLine) (j : ℕ) → ((i : ℕ) (l : CableLine) → slice_get cs i ≡ Some l → cable_idle w (j + i) l ≡ true) → idle_from w j cs ≡ true
+pub all_idle : (w : Network) (cs : List CableLine) (j : ℕ) → ((i : ℕ) (l : CableLine) → slice_get cs i ≡ Some l → cable_idle w (j + i) l ≡ true) → idle_from w j cs ≡ true
 all_idle w [] j h = refl
 all_idle w (c ∷ cs) j h =
     both (cable_idle w j c) (idle_from w (suc j) cs) (subst (λ (n : ℕ). cable_idle w n c ≡ true) (nothing_more j) (h 0 c refl))

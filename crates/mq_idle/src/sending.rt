@@ -6,12 +6,11 @@ ghost use Rattle.mq_spec_manager.specs.Agents.{batch_row, stock};
 ghost use Rattle.mq_spec_network.specs.Turns.{rests};
 ghost use Rattle.mq_spec_node.specs.Words.{sender_end};
 
-use mq_agents::{batch_row, stock};
 use mq_base::ChName;
 use mq_cabled::sender_of;
-use mq_core::Core;
 use mq_disk::Disk;
 use mq_events::Node;
+use mq_events::below::{Core, batch_row, stock};
 use mq_own::SenderEnd;
 use mq_sender::SenderState;
 use mq_sync::Stock;

@@ -5,10 +5,7 @@ use Rattle.std.specs.Str.{bytes_eq}
 use Rattle.std.proofs.lemmas.Bool.Decides.{nat_tests}
 use Rattle.std.proofs.lemmas.Slice.Eq.{bytes_eq-Decides}
 use Rattle.mq_index.specs.declared.keys.Key.{Key}
-use Rattle.mq_message.specs.declared.message.Ident.{Ident}
-use Rattle.mq_queue.specs.Rows.{same_ident}
 use Rattle.mq_index.specs.Keys.{same_key}
-use Rattle.mq_index.specs.Slots.{ident_key, same_ident_key}
 
 nat_same : (n : ℕ) → (n == n) ≡ true
 nat_same n = grind (arith, nat_tests)
@@ -45,11 +42,3 @@ pub key_chain : (a b c : Key) → same_key a b ≡ true → same_key a c ≡ sam
 key_chain a b c e =
     let h = both_true (a.lane == b.lane) (bytes_eq a.id b.id) e in
     ap (λ (x : Bool). x && bytes_eq a.id c.id) (nat_chain a.lane b.lane c.lane h.0) ∙ ap (λ (xs : List ℕ). (b.lane == c.lane) && bytes_eq xs c.id) ((bytes_eq-Decides a.id b.id).0 h.1)
-
--- Idents as keys of a map.
-pub ident_key_same : (a b : Ident) → same_ident_key (ident_key a) (ident_key b) ≡ same_ident a b
-ident_key_same a b = by (a.manager == b.manager) (a.incarnation == b.incarnation) (a.number == b.number)
-  where
-    by : (m i n : Bool) → (m && (i && n)) ≡ ((m && i) && n)
-    by true i n = refl
-    by false i n = refl

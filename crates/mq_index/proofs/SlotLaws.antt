@@ -1,6 +1,6 @@
 -- What rows in slots keep, as one comes, one goes and one changes at its slot.
 use Rattle.std.proofs.Common.{◌≡◌, ℕ, zero, suc, ◌+◌, ◌<◌, ◌≤◌, Bool, true, false, List, [], ◌∷◌, ◌++◌, length, inl, inr, refl, sym, ap, subst, ◌∙◌, arith}
-use Rattle.std.specs.Prelude.{◌⊎◌, ◌==◌, ◌&&◌, if◌then◌else◌, Option, None, Some, replicate, slice_get, slice_set, slice_index}
+use Rattle.std.specs.Prelude.{◌⊎◌, ◌==◌, if◌then◌else◌, Option, None, Some, replicate, slice_get, slice_set, slice_index}
 use Rattle.std.proofs.lemmas.Bool.Decides.{nat_tests}
 use Rattle.mq_message.specs.declared.message.Ident.{Ident}
 use Rattle.mq_message.specs.declared.place.Place.{Place}
@@ -9,7 +9,7 @@ use Rattle.mq_queue.specs.declared.row.Row.{Row}
 use Rattle.mq_queue.specs.Rows.{has_ident, is_free, same_ident}
 use Rattle.mq_queue.specs.Queues.{freed}
 use Rattle.mq_queue.specs.Counts.{AreEnough, IsOneMore, weight}
-use Rattle.mq_queue.proofs.Edits.{same_is}
+use Rattle.mq_queue.proofs.Edits.{same_is, same_self}
 use Rattle.mq_index.specs.declared.keys.Kind.{Kind}
 use Rattle.mq_index.specs.declared.keys.Kind.TheVariants.{Lane, MsgId, CorrelId}
 use Rattle.mq_index.specs.Keys.{key_by}
@@ -289,12 +289,9 @@ sound_of marks slots arrivals homes m h = record {
   low = m.lane;
   apart = λ i j a b e f t. one_place i j a b e f t (homes a.message.ident) (h a.message.ident);
 } where
-  itself : (m i n : ℕ) → (((m == m) && (i == i)) && (n == n)) ≡ true
-  itself m i n = grind (arith, nat_tests)
-
   one_place : (i j : ℕ) (a b : Row) → slice_get slots i ≡ Some (Some a) → slice_get slots j ≡ Some (Some b) → has_ident a.message.ident b ≡ true → (o : Option ℕ) → IsHome a.message.ident slots o → i ≡ j
   one_place i j a b e f t None n = clash (has_ident a.message.ident b) t (n j b f)
-  one_place i j a b e f t (Some k) o = o.only i a e (itself a.message.ident.manager a.message.ident.incarnation a.message.ident.number) ∙ sym (o.only j b f t)
+  one_place i j a b e f t (Some k) o = o.only i a e (same_self a.message.ident) ∙ sym (o.only j b f t)
 
 pub marked_raised : (marks : List ℕ) (slots : List (Option Row)) (a b : ℕ) → a ≤ b → AreMarked marks slots a → AreMarked marks slots b
 marked_raised marks slots a b le m = record {

@@ -1,13 +1,12 @@
 -- What rows in slots keep: when each came, where each ident stands, and how many there are.
-use Rattle.std.specs.Prelude.{◌≡◌, ◌+◌, ◌<◌, ◌≤◌, ◌==◌, ◌&&◌, ℕ, Bool, true, false, not, List, [], ◌∷◌, if◌then◌else◌, Option, None, Some, slice_get, slice_index, length}
+use Rattle.std.specs.Prelude.{◌≡◌, ◌+◌, ◌<◌, ◌≤◌, ℕ, Bool, true, false, not, List, [], ◌∷◌, if◌then◌else◌, Option, None, Some, slice_get, slice_index, length}
 use Rattle.std.specs.HashMap.{HashMap, get}
 use Rattle.mq_message.specs.declared.message.Ident.{Ident}
 use Rattle.mq_message.specs.declared.place.Holder.{Holder}
 use Rattle.mq_queue.specs.declared.row.Row.{Row}
-use Rattle.mq_queue.specs.Rows.{has_ident, is_by_unit, is_free, is_persistent}
+use Rattle.mq_queue.specs.Rows.{same_ident, has_ident, is_by_unit, is_free, is_persistent}
 use Rattle.mq_queue.specs.Queues.{freed, unit_freed}
 use Rattle.mq_queue.specs.Counts.{weight}
-use Rattle.mq_index.specs.declared.homes.IdentKey.{IdentKey}
 
 -- the row of a slot
 abbrev pub row_in : Option (Option Row) → Option Row
@@ -27,16 +26,9 @@ pub record AreMarked (marks : List ℕ) (slots : List (Option Row)) (arrivals : 
   pub mark : (i : ℕ) (row : Row) → slice_get slots i ≡ Some (Some row) → slice_get marks i ≡ Some row.place.arrival
   pub lane : (i : ℕ) (row : Row) → slice_get slots i ≡ Some (Some row) → row.place.lane < 10
 
--- Idents, as keys of a map.
-abbrev pub ident_key : Ident → IdentKey
-ident_key ident = record { manager = ident.manager; incarnation = ident.incarnation; number = ident.number }
-
-abbrev pub same_ident_key : IdentKey → IdentKey → Bool
-same_ident_key a b = a.manager == b.manager && (a.incarnation == b.incarnation && a.number == b.number)
-
 -- the slot that was noted of an ident
-abbrev pub home_in : {S : Type 0} → HashMap IdentKey ℕ S → Ident → Option ℕ
-home_in homes ident = get same_ident_key homes (ident_key ident)
+abbrev pub home_in : {S : Type 0} → HashMap Ident ℕ S → Ident → Option ℕ
+home_in homes ident = get same_ident homes ident
 
 -- no slot has a row with the ident
 abbrev pub NoRow : Ident → List (Option Row) → Type 0

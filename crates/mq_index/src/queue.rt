@@ -1,6 +1,4 @@
 //! A queue whose rows are found by their idents, their ids and their places with no walk over the others.
-ghost use Rattle.std.specs.Prelude.{◌≡◌};
-ghost use Rattle.mq_queue.specs.Queues.{lane_of};
 
 use crate::pack::pack;
 use crate::rows::{
@@ -9,7 +7,7 @@ use crate::rows::{
 use crate::store::Store;
 use mq_base::NoMemory;
 use mq_message::{Holder, Ident, Message, Place, Want};
-use mq_queue::{Queue, Row, lane_at};
+use mq_queue::{Queue, Row, lane_of};
 use std::alloc::Global;
 use std::marker::Model;
 
@@ -31,17 +29,6 @@ impl Model for IndexedQueue {
     ghost view = { λ q. record { by_priority = q.by_priority; rows = in_order (stored q.store.slots); arrivals = q.store.arrivals; room = q.store.room } };
 
     ghost invariant = { λ q. IsQueue (in_order (stored q.store.slots)) q.store.arrivals };
-}
-
-/// The lane of a message: by its priority, or the one lane of first in, first out.
-fn lane_of(by_priority: bool, message: &Message) -> u8
-    ensures { result ≡ lane_of by_priority message.now }
-{
-    if by_priority {
-        lane_at(message.md.priority)
-    } else {
-        0
-    }
 }
 
 impl Queue for IndexedQueue {

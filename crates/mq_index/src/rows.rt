@@ -2,31 +2,15 @@
 ghost use Rattle.std.specs.Prelude.{◌≡◌, ◌<◌, Option, Some, find, length, option_copied, slice_get, slice_set};
 ghost use Rattle.std.specs.List.{list_any};
 ghost use Rattle.mq_queue.specs.declared.row.Row as rows;
-ghost use Rattle.mq_queue.specs.Rows.{has_ident, is_after, is_persistent, is_by_unit, keep, retag};
+ghost use Rattle.mq_queue.specs.Rows.{has_ident, is_after, keep, retag};
 ghost use Rattle.mq_queue.specs.Queues.{has_other_ident, hold_row, is_free_one, is_held_one, is_lasting, is_takable, release_row, unit_freed};
 ghost use Rattle.mq_index.specs.Lanes.{in_order};
 ghost use Rattle.mq_index.specs.Walks.{stored};
 ghost use Rattle.mq_index.specs.Slots.{freed_slot, in_unit, kept_slot, passes};
 
 use crate::store::Store;
-use mq_message::{Holder, Ident, Message, Place, Want};
-use mq_queue::Row;
-
-fn is_persistent(message: &Message) -> bool
-    ensures { result ≡ is_persistent message.now }
-{
-    message.md.persistence == 1
-}
-
-fn is_by_unit(row: &Row) -> bool
-    ensures { result ≡ is_by_unit row.now.by }
-{
-    match row.by {
-        None => false,
-        Some(Holder::Unit(_)) => true,
-        Some(Holder::Batch(_)) => false,
-    }
-}
+use mq_message::{Holder, Ident, Place, Want};
+use mq_queue::{Row, is_by_unit, is_persistent};
 
 /// Whether a slot has a row whose message is not persistent.
 fn is_passing(store: &Store, at: usize) -> bool

@@ -9,14 +9,14 @@ ghost use Rattle.mq_index.specs.Walks.{NoneAtAll, is_asked, is_taken, stored};
 ghost use Rattle.mq_index.specs.Slots.{AreLow, IsHome, IsSound, NoRow, freed_so, held_so, one, row_in, total};
 ghost use Rattle.mq_index.specs.Stores.{StoreState};
 
-use crate::counts::{count_in, count_out, count_rows};
-use crate::homes::{IdentKey, drop_home, home_in, note_home, reserve_homes};
+use crate::counts::count_rows;
+use crate::homes::{drop_home, home_in, note_home, reserve_homes};
 use crate::index::Index;
 use crate::keys::Kind;
-use crate::walk::{found_in, has_lane, is_free, kind_for, placed};
+use crate::walk::{found_in, has_lane, kind_for, placed};
 use mq_base::NoMemory;
 use mq_message::{Holder, Ident, Place, Want};
-use mq_queue::Row;
+use mq_queue::{Row, count_in, count_out, free_row, is_free};
 use std::alloc::Global;
 use std::collections::HashMap;
 use std::marker::Model;
@@ -29,7 +29,7 @@ pub struct Store {
     marks: Vec<u64>,
     index: Index,
     /// In which slot the row with an ident lies.
-    homes: HashMap<IdentKey, usize>,
+    homes: HashMap<Ident, usize>,
     /// How many free rows have at least the priority 0, 1, and so on to 9.
     frees: [u64; 10],
     /// How many slots have a row.
@@ -91,17 +91,7 @@ fn hold_slot(slots: &mut Vec<Option<Row>>, at: usize, by: &Holder)
     }
 }
 
-/// A row is free again, and counts a backout where that is said.
-fn free_row(row: &mut Row, backed_out: bool)
-    ensures { row.new ≡ freed backed_out row.old }
-{
-    if backed_out {
-        let md = &mut row.message.md;
-        md.backout_count = md.backout_count.saturating_add(1);
-    }
-    row.by = None;
-}
-
+/// The row of a slot is free again, and counts a backout where that is said.
 fn free_slot(slots: &mut Vec<Option<Row>>, at: usize, backed_out: bool)
     requires there { at < length slots.old.items }
     ensures freed { (row : rows.Row) → slice_get slots.old.items at ≡ Some (Some row) → slots.new.items ≡ slice_set slots.old.items at (Some (freed backed_out row)) }

@@ -2,8 +2,7 @@
 ghost use Rattle.std.specs.Prelude.{◌≡◌, ◌<◌, ◌+◌, ℕ, Bool, None, Some, IfSome, IfNone, find, length, option_copied, slice_get, true, false, nat_lt, if◌then◌else◌};
 ghost use Rattle.std.specs.List.Sorted.{IsPartitionPoint};
 ghost use Rattle.mq_queue.specs.declared.row.Row as rows;
-ghost use Rattle.mq_queue.specs.Rows.{is_after, is_free, is_id, is_wanted};
-ghost use Rattle.mq_queue.specs.Queues.{is_at, is_fitting};
+ghost use Rattle.mq_queue.specs.Queues.{is_at};
 ghost use Rattle.mq_index.specs.declared.keys.Kind.TheVariants.{Lane};
 ghost use Rattle.mq_index.specs.Keys.{key_by, keyed, same_key};
 ghost use Rattle.mq_index.specs.Chains.{IsChainOf};
@@ -14,46 +13,7 @@ ghost use Rattle.mq_index.specs.Walks.{AreKeyed, NoneAtAll, WalksAt, id_in, id_o
 use crate::chain::Chain;
 use crate::keys::{Key, Kind, key_by};
 use mq_message::{Place, Want};
-use mq_queue::Row;
-
-/// Whether no unit and no batch holds it.
-pub fn is_free(row: &Row) -> bool
-    ensures { result ≡ is_free row.now }
-{
-    match row.by {
-        None => true,
-        Some(_) => false,
-    }
-}
-
-fn is_id(wanted: &Option<[u8; 24]>, id: &[u8; 24]) -> bool
-    ensures { result ≡ is_id wanted.now id.now }
-{
-    match wanted {
-        None => true,
-        Some(wanted) => wanted == id,
-    }
-}
-
-fn is_fitting(want: &Want, row: &Row) -> bool
-    ensures { result ≡ is_fitting want.now row.now }
-{
-    is_free(row)
-        && (is_id(&want.msg_id, &row.message.md.msg_id)
-            && is_id(&want.correl_id, &row.message.md.correl_id))
-}
-
-fn is_after(after: Option<Place>, row: &Row) -> bool
-    ensures { result ≡ is_after after row.now }
-{
-    match after {
-        None => true,
-        Some(place) => {
-            place.lane < row.place.lane
-                || (place.lane == row.place.lane && place.arrival < row.place.arrival)
-        }
-    }
-}
+use mq_queue::{Row, is_after, is_fitting};
 
 fn is_asked(any: bool, want: &Want, after: Option<Place>, row: &Row) -> bool
     ensures { result ≡ is_asked any want.now after row.now }

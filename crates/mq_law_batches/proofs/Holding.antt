@@ -15,17 +15,17 @@ use Rattle.mq_calls.specs.State.Which.{Among}
 use Rattle.mq_calls.specs.State.Change.{Hold}
 use Rattle.mq_calls.specs.Reads.{batch_of, in_doubt_of, sender_data, stored}
 use Rattle.mq_calls.specs.Changes.{apply_all, retag_if}
-use Rattle.mq_spec_network.specs.Promised.{AreDistinct}
-use Rattle.mq_spec_network.specs.Story.{Mem}
-use Rattle.mq_law_rows.specs.Families.{put_at}
-use Rattle.mq_law_rows.specs.World.{Book, Ghost, Inv, Tag, World, idents_in, standing, tag_idents}
-use Rattle.mq_law_rows.specs.Kinds.{Chosen, among, ghost_take, ghost_hold}
-use Rattle.mq_law_rows.specs.Ordered.{IsFront}
-use Rattle.mq_law_rows.proofs.Holding.{takes_batch, only_one}
-use Rattle.mq_law_rows.proofs.Receiving.{any_mem}
-use Rattle.mq_law_rows.proofs.Lists.{and_left, and_right, bool_case, map_mem, name_yes}
-use Rattle.mq_law_seen.specs.Seen.{doubt_of, held_unit, holds_of, last_of, rows_of, world_of}
-use Rattle.mq_law_manager.proofs.Named.{batch_set}
+use Rattle.mq_law_events.specs.from_spec_network.Promised.{AreDistinct}
+use Rattle.mq_law_events.specs.from_spec_network.Story.{Mem}
+use Rattle.mq_law_events.specs.from_law_rows.Families.{put_at}
+use Rattle.mq_law_events.specs.from_law_rows.World.{Book, Ghost, Inv, Tag, World, idents_in, standing, tag_idents}
+use Rattle.mq_law_events.specs.from_law_rows.Kinds.{Chosen, among, ghost_take, ghost_hold}
+use Rattle.mq_law_events.specs.from_law_rows.Ordered.{IsFront}
+use Rattle.mq_law_events.proofs.from_law_rows.Holding.{takes_batch, only_one}
+use Rattle.mq_law_events.proofs.from_law_rows.Receiving.{any_mem}
+use Rattle.mq_law_events.proofs.from_law_rows.Lists.{and_left, and_right, bool_case, map_mem, name_yes}
+use Rattle.mq_law_events.specs.from_law_seen.Seen.{doubt_of, held_unit, holds_of, last_of, rows_of, world_of}
+use Rattle.mq_law_events.proofs.from_law_manager.Named.{batch_set}
 use Rattle.mq_law_events.specs.Tied.{IsNext}
 use Rattle.mq_law_events.proofs.Putting.{rows_after}
 use Rattle.mq_law_batches.specs.Releases.{held_changes}

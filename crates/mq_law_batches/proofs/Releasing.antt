@@ -16,14 +16,14 @@ use Rattle.mq_calls.specs.State.Which.{HeldBy}
 use Rattle.mq_calls.specs.State.Change.{Release}
 use Rattle.mq_calls.specs.Reads.{batch_of, in_doubt_of, receiver_in, sender_data, stored}
 use Rattle.mq_calls.specs.Changes.{apply_all, release_if}
-use Rattle.mq_spec_network.specs.Standing.{cable_from, last_unit, last_unit_at, last_unit_of}
-use Rattle.mq_law_rows.specs.World.{Book, Ghost, Inv, World}
-use Rattle.mq_law_rows.specs.Kinds.{after, freed}
-use Rattle.mq_law_rows.specs.Kinds as kinds
-use Rattle.mq_law_rows.proofs.Batches.{releases_batch}
-use Rattle.mq_law_rows.proofs.Lists.{bool_case, eqb_yes, name_yes}
-use Rattle.mq_law_seen.specs.Seen.{doubt_of, held_unit, holds_of, last_of, rows_of, units_of, world_of}
-use Rattle.mq_law_manager.proofs.Named.{batch_dropped}
+use Rattle.mq_law_events.specs.from_spec_network.Standing.{cable_from, last_unit, last_unit_at, last_unit_of}
+use Rattle.mq_law_events.specs.from_law_rows.World.{Book, Ghost, Inv, World}
+use Rattle.mq_law_events.specs.from_law_rows.Kinds.{after, freed}
+use Rattle.mq_law_events.specs.from_law_rows.Kinds as kinds
+use Rattle.mq_law_events.proofs.from_law_rows.Batches.{releases_batch}
+use Rattle.mq_law_events.proofs.from_law_rows.Lists.{bool_case, eqb_yes, name_yes}
+use Rattle.mq_law_events.specs.from_law_seen.Seen.{doubt_of, held_unit, holds_of, last_of, rows_of, units_of, world_of}
+use Rattle.mq_law_events.proofs.from_law_manager.Named.{batch_dropped}
 use Rattle.mq_law_events.specs.Tied.{IsNext}
 use Rattle.mq_law_events.proofs.Putting.{rows_after}
 use Rattle.mq_law_batches.specs.Releases.{release_changes}

@@ -19,16 +19,16 @@ use Rattle.mq_calls.specs.State.Change.{Leave}
 use Rattle.mq_calls.specs.Reads.{batch_of, connection_at, in_doubt_of, sender_data, sender_in, stored}
 use Rattle.mq_calls.specs.Changes.{apply_all, release_if}
 use Rattle.mq_spec_manager.specs.Batches.{prepared_changes, prepared_doubt}
-use Rattle.mq_spec_network.specs.Ledger.{unit_of}
-use Rattle.mq_law_rows.specs.Families.{put_at}
-use Rattle.mq_law_rows.specs.World.{Book, Ghost, Inv, World, is_last}
-use Rattle.mq_law_rows.specs.Kinds.{after, freed, ghost_force}
-use Rattle.mq_law_rows.proofs.Batches.{releases_batch}
-use Rattle.mq_law_rows.proofs.Holding as holding
-use Rattle.mq_law_rows.proofs.Settling.{drops_batch, forces_unit}
-use Rattle.mq_law_rows.proofs.Lists.{bool_case, eqb_self, eqb_yes, name_yes}
-use Rattle.mq_law_seen.specs.Seen.{doubt_of, held_unit, holds_of, last_of, rows_of, units_of, world_of}
-use Rattle.mq_law_manager.proofs.Named.{batch_dropped, sender_set}
+use Rattle.mq_law_events.specs.from_spec_network.Ledger.{unit_of}
+use Rattle.mq_law_events.specs.from_law_rows.Families.{put_at}
+use Rattle.mq_law_events.specs.from_law_rows.World.{Book, Ghost, Inv, World, is_last}
+use Rattle.mq_law_events.specs.from_law_rows.Kinds.{after, freed, ghost_force}
+use Rattle.mq_law_events.proofs.from_law_rows.Batches.{releases_batch}
+use Rattle.mq_law_events.proofs.from_law_rows.Holding as holding
+use Rattle.mq_law_events.proofs.from_law_rows.Settling.{drops_batch, forces_unit}
+use Rattle.mq_law_events.proofs.from_law_rows.Lists.{bool_case, eqb_self, eqb_yes, name_yes}
+use Rattle.mq_law_events.specs.from_law_seen.Seen.{doubt_of, held_unit, holds_of, last_of, rows_of, units_of, world_of}
+use Rattle.mq_law_events.proofs.from_law_manager.Named.{batch_dropped, sender_set}
 use Rattle.mq_law_events.specs.Tied.{IsNext}
 use Rattle.mq_law_events.proofs.Putting.{rows_after}
 use Rattle.mq_law_batches.specs.Releases.{settled_changes}

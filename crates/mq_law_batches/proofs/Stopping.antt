@@ -16,18 +16,18 @@ use Rattle.mq_calls.specs.Reads.{batch_of, in_doubt_of, sender_data, stored}
 use Rattle.mq_calls.specs.Changes.{apply, apply_all, release_if}
 use Rattle.mq_calls.specs.Images.{begun, has_batch, lasting, lasting_row, lasting_rows, numbered, raised}
 use Rattle.mq_spec_manager.specs.Stops.{at_rest, release_batch}
-use Rattle.mq_spec_network.specs.Ledger as ledgers
-use Rattle.mq_spec_network.specs.Ledger.{Ledger, change_at}
-use Rattle.mq_spec_network.specs.Story.{Mem}
-use Rattle.mq_law_rows.specs.World.{Book, Ghost, Inv, World}
-use Rattle.mq_law_rows.specs.Kinds.{after, freed}
-use Rattle.mq_law_rows.proofs.Lists.{bool_case, eqb_yes, name_self, true_false}
-use Rattle.mq_law_seen.proofs.Bridges.{name_back}
-use Rattle.mq_law_seen.specs.Seen.{book_of, doubt_of, holds_of, last_of, rows_of, units_of, world_of}
-use Rattle.mq_law_manager.proofs.Named.{batch_dropped}
-use Rattle.mq_law_manager.proofs.Numbered.{rows_begun}
-use Rattle.mq_law_manager.proofs.Restarting.{rows_lasting}
-use Rattle.mq_law_manager.proofs.Units.{behind}
+use Rattle.mq_law_events.specs.from_spec_network.Ledger as ledgers
+use Rattle.mq_law_events.specs.from_spec_network.Ledger.{Ledger, change_at}
+use Rattle.mq_law_events.specs.from_spec_network.Story.{Mem}
+use Rattle.mq_law_events.specs.from_law_rows.World.{Book, Ghost, Inv, World}
+use Rattle.mq_law_events.specs.from_law_rows.Kinds.{after, freed}
+use Rattle.mq_law_events.proofs.from_law_rows.Lists.{bool_case, eqb_yes, name_self, true_false}
+use Rattle.mq_law_events.proofs.from_law_seen.Bridges.{name_back}
+use Rattle.mq_law_events.specs.from_law_seen.Seen.{book_of, doubt_of, holds_of, last_of, rows_of, units_of, world_of}
+use Rattle.mq_law_events.proofs.from_law_manager.Named.{batch_dropped}
+use Rattle.mq_law_events.proofs.from_law_manager.Numbered.{rows_begun}
+use Rattle.mq_law_events.proofs.from_law_manager.Restarting.{rows_lasting}
+use Rattle.mq_law_events.proofs.from_law_manager.Units.{behind}
 use Rattle.mq_law_events.specs.Tied.{Follow, IsFresh, IsNext, IsTold}
 use Rattle.mq_law_events.proofs.Getting.{none_behind}
 use Rattle.mq_law_events.proofs.Putting.{rows_after}

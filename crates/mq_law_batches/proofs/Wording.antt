@@ -16,11 +16,11 @@ use Rattle.mq_calls.specs.State.Change.{Seize, SetBound, SetReceiver, SetSender,
 use Rattle.mq_calls.specs.Reads.{batch_of, in_doubt_of, queue_in, receiver_data, receiver_in, sender_data, sender_in}
 use Rattle.mq_calls.specs.Changes.{apply, apply_all}
 use Rattle.mq_spec_manager.specs.Hardening.{harden_part}
-use Rattle.mq_spec_network.specs.Standing.{last_unit_of}
-use Rattle.mq_law_rows.specs.World.{World}
-use Rattle.mq_law_rows.proofs.Lists.{name_yes}
-use Rattle.mq_law_seen.specs.Seen.{doubt_of, held_unit, holds_of, rows_of, world_of}
-use Rattle.mq_law_manager.proofs.Named.{receiver_set, sender_set}
+use Rattle.mq_law_events.specs.from_spec_network.Standing.{last_unit_of}
+use Rattle.mq_law_events.specs.from_law_rows.World.{World}
+use Rattle.mq_law_events.proofs.from_law_rows.Lists.{name_yes}
+use Rattle.mq_law_events.specs.from_law_seen.Seen.{doubt_of, held_unit, holds_of, rows_of, world_of}
+use Rattle.mq_law_events.proofs.from_law_manager.Named.{receiver_set, sender_set}
 use Rattle.mq_law_events.specs.Tied.{IsNext}
 use Rattle.mq_law_batches.specs.Releases.{IsWord}
 use Rattle.mq_law_batches.proofs.Releasing.{IsNear}

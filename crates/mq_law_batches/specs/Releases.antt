@@ -15,10 +15,10 @@ use Rattle.mq_calls.specs.State.Change.{AddBatch, DropBatch, Hold, Release, SetS
 use Rattle.mq_calls.specs.Reads.{batch_of, in_doubt_of, sender_data}
 use Rattle.mq_calls.specs.Changes.{apply_all}
 use Rattle.mq_spec_manager.specs.Hardening.{settle_change}
-use Rattle.mq_spec_network.specs.Story.{Mem}
-use Rattle.mq_law_rows.specs.World.{Book, Ghost, Inv}
-use Rattle.mq_spec_network.specs.Ledger.{Ledger, stop}
-use Rattle.mq_law_seen.specs.Seen.{book_of, last_of, world_of}
+use Rattle.mq_law_events.specs.from_spec_network.Story.{Mem}
+use Rattle.mq_law_events.specs.from_law_rows.World.{Book, Ghost, Inv}
+use Rattle.mq_law_events.specs.from_spec_network.Ledger.{Ledger, stop}
+use Rattle.mq_law_events.specs.from_law_seen.Seen.{book_of, last_of, world_of}
 use Rattle.mq_law_events.specs.Tied.{IsFresh, IsTold}
 
 -- the channel's batch is released, as its end asks of the manager

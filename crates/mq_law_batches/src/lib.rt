@@ -20,11 +20,11 @@ ghost use Rattle.mq_calls.specs.Images.{begun, lasting, raised};
 ghost use Rattle.mq_spec_manager.specs.Stops.{at_rest};
 ghost use Rattle.mq_spec_manager.specs.Batches.{prepared_changes};
 ghost use Rattle.mq_spec_manager.specs.Hardening.{harden_part};
-ghost use Rattle.mq_spec_network.specs.Ledger.{Ledger};
-ghost use Rattle.mq_law_rows.specs.World.{Book, Ghost, Inv, Tag, standing, tag_idents};
-ghost use Rattle.mq_law_rows.specs.Kinds.{Chosen, after, freed, ghost_force, ghost_hold, ghost_take};
-ghost use Rattle.mq_law_rows.specs.Ordered.{IsFront};
-ghost use Rattle.mq_law_seen.specs.Seen.{book_of, last_of, world_of};
+ghost use Rattle.mq_law_events.specs.from_spec_network.Ledger.{Ledger};
+ghost use Rattle.mq_law_events.specs.from_law_rows.World.{Book, Ghost, Inv, Tag, standing, tag_idents};
+ghost use Rattle.mq_law_events.specs.from_law_rows.Kinds.{Chosen, after, freed, ghost_force, ghost_hold, ghost_take};
+ghost use Rattle.mq_law_events.specs.from_law_rows.Ordered.{IsFront};
+ghost use Rattle.mq_law_events.specs.from_law_seen.Seen.{book_of, last_of, world_of};
 ghost use Rattle.mq_law_events.specs.Tied.{IsFresh, IsNext, IsTold};
 ghost use Rattle.mq_law_batches.specs.Releases.{AreUnprepared, IsWord, Rested, held_changes, release_changes, settled_changes};
 

@@ -18,9 +18,9 @@ use Rattle.mq_law_channel.specs.Channel.{Channel, Past}
 use Rattle.mq_law_channel.specs.Opening.{doubt_unit}
 use Rattle.mq_law_rows.specs.World.{Book, Ghost, Inv}
 use Rattle.mq_law_rows.proofs.Lists.{true_false}
-use Rattle.mq_law_seen.specs.Seen.{doubt_of, held_unit, holds_of, last_of, world_of}
-use Rattle.mq_law_receipts.specs.Receipts.{IsCabled}
-use Rattle.mq_law_receipts.proofs.Cabling.{cabled}
+use Rattle.mq_law_turns.specs.from_law_seen.Seen.{doubt_of, held_unit, holds_of, last_of, world_of}
+use Rattle.mq_law_turns.specs.from_law_receipts.Receipts.{IsCabled}
+use Rattle.mq_law_turns.proofs.from_law_receipts.Cabling.{cabled}
 use Rattle.mq_law_cables.specs.Joints.{AreJoint, Begins}
 
 held_none : (o : Option InDoubt) → held_unit o None ≡ option_map doubt_unit o

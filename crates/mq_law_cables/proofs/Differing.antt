@@ -5,7 +5,7 @@ use Rattle.mq_history.specs.declared.scenario.Scenario.{Scenario}
 use Rattle.mq_history.specs.Scenarios.{IsScenario}
 use Rattle.mq_spec_network.specs.Story.{Chain, Mem}
 use Rattle.mq_law_rows.proofs.Lists.{here_yes, mem_map}
-use Rattle.mq_law_seen.proofs.Images.{pairs_chain}
+use Rattle.mq_law_turns.proofs.from_law_seen.Images.{pairs_chain}
 use Rattle.mq_law_cables.specs.Joints.{LeadTo}
 
 abbrev channel_of : CableLine → List ℕ

@@ -15,11 +15,11 @@ use Rattle.mq_law_channel.specs.Turns.{emptied, released}
 use Rattle.mq_law_rows.specs.Families.{is_here, put_at}
 use Rattle.mq_law_rows.specs.World.{Book, Ghost, Inv, Owner, World}
 use Rattle.mq_law_rows.proofs.Lists.{bool_case, here_yes}
-use Rattle.mq_law_seen.specs.Seen.{book_of, world_of}
-use Rattle.mq_law_events.specs.Local.{with_owner}
-use Rattle.mq_law_events.specs.Tied.{Follow, IsNext, IsTold}
-use Rattle.mq_law_events.proofs.Stepping.{follows_on}
-use Rattle.mq_law_story.specs.Needs.{IsTied}
+use Rattle.mq_law_turns.specs.from_law_seen.Seen.{book_of, world_of}
+use Rattle.mq_law_turns.specs.from_law_events.Local.{with_owner}
+use Rattle.mq_law_turns.specs.from_law_events.Tied.{Follow, IsNext, IsTold}
+use Rattle.mq_law_turns.proofs.from_law_events.Stepping.{follows_on}
+use Rattle.mq_law_turns.specs.from_law_story.Needs.{IsTied}
 use Rattle.mq_law_turns.specs.Turns.{AreBegun, IsAtRest, IsJoint, Scene, Taken, TurnedBy, world_in}
 use Rattle.mq_law_turns.proofs.Keeping as keeping
 use Rattle.mq_law_turns.proofs.Resting as resting

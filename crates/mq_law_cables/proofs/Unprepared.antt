@@ -16,10 +16,10 @@ use Rattle.mq_law_manager.proofs.Lists.{name_yes}
 use Rattle.mq_law_channel.specs.Channel.{Channel, Facts, Past}
 use Rattle.mq_law_rows.specs.World.{Book, Ghost}
 use Rattle.mq_law_rows.proofs.Lists.{bool_case}
-use Rattle.mq_law_seen.specs.Seen.{doubt_of, held_unit, holds_of, last_of, world_of}
-use Rattle.mq_law_batches.specs.Releases.{AreUnprepared}
-use Rattle.mq_law_story.specs.Needs.{IsTied}
-use Rattle.mq_law_story.proofs.Tying.{unprepared_tied}
+use Rattle.mq_law_turns.specs.from_law_seen.Seen.{doubt_of, held_unit, holds_of, last_of, world_of}
+use Rattle.mq_law_turns.specs.from_law_batches.Releases.{AreUnprepared}
+use Rattle.mq_law_turns.specs.from_law_story.Needs.{IsTied}
+use Rattle.mq_law_turns.proofs.from_law_story.Tying.{unprepared_tied}
 use Rattle.mq_law_cables.specs.Joints.{AreJoint, AreCabled}
 
 -- a batch that is found is there, and of that channel

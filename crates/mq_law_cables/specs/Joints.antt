@@ -13,7 +13,7 @@ use Rattle.mq_law_channel.specs.Turns.{released}
 use Rattle.mq_spec_network.specs.Story.{Mem}
 use Rattle.mq_law_rows.specs.Families.{is_here}
 use Rattle.mq_law_rows.specs.World.{Book, Ghost, Inv, Tag, World}
-use Rattle.mq_law_story.specs.Needs.{IsTied, letter_tag}
+use Rattle.mq_law_turns.specs.from_law_story.Needs.{IsTied, letter_tag}
 use Rattle.mq_law_turns.specs.Turns.{AreBegun}
 
 -- The network has the facts, and each cable's channel is of one mind with it. Channels and their pasts are by sender and name.

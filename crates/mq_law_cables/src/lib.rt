@@ -13,10 +13,10 @@ ghost use Rattle.mq_spec_network.specs.Story.{Mem};
 ghost use Rattle.mq_law_channel.specs.Channel.{Channel, Facts, Past};
 ghost use Rattle.mq_law_rows.specs.Families.{put_at};
 ghost use Rattle.mq_law_rows.specs.World.{Book, Ghost, Inv, World};
-ghost use Rattle.mq_law_seen.specs.Seen.{book_of, world_of};
-ghost use Rattle.mq_law_events.specs.Tied.{Follow, IsNext, IsTold};
+ghost use Rattle.mq_law_turns.specs.from_law_seen.Seen.{book_of, world_of};
+ghost use Rattle.mq_law_turns.specs.from_law_events.Tied.{Follow, IsNext, IsTold};
 ghost use Rattle.mq_law_manager.specs.Facts.{IsSound};
-ghost use Rattle.mq_law_batches.specs.Releases.{AreUnprepared};
+ghost use Rattle.mq_law_turns.specs.from_law_batches.Releases.{AreUnprepared};
 ghost use Rattle.mq_law_turns.specs.Turns.{IsAtRest, IsJoint, Scene, Taken, TurnedBy, world_in};
 ghost use Rattle.mq_law_cables.specs.Joints.{AreCabled, AreJoint, Begins, Joined, LeadTo, rested};
 

@@ -25,9 +25,9 @@ use Rattle.mq_scn_text.specs.declared.reading.Inside.{Inside}
 use Rattle.mq_scn_text.specs.declared.reading.Inside.TheVariants as insides
 use Rattle.mq_scn_text.specs.Reading.{scenario_of}
 use Rattle.mq_scn_text.specs.Scripts.{new_script, put_len, script_added}
-use Rattle.mq_scn_grammar.specs.Commands.{IsOneCommand}
-use Rattle.mq_scn_grammar.specs.ScriptLines.{IsScriptLine}
-use Rattle.mq_scn_parts.specs.Steps.{IsStepOf, IsStepLine}
+use Rattle.mq_law_scenario.specs.from_scn_grammar.Commands.{IsOneCommand}
+use Rattle.mq_law_scenario.specs.from_scn_grammar.ScriptLines.{IsScriptLine}
+use Rattle.mq_law_scenario.specs.from_scn_parts.Steps.{IsStepOf, IsStepLine}
 use Rattle.mq_law_scenario.specs.Sections.{AreCommands, IsSection}
 use Rattle.mq_law_scenario.specs.Texts.{Said, nothing_said, Adds, IsOpenSection, IsOpenTable, IsOpenScript, AreOpenSteps, AreSpoken, AreStepped, IsOpen, Ends, IsBlock, AreBlocks, IsText}
 use Rattle.mq_law_scenario.proofs.Either.{text_found}

@@ -64,7 +64,7 @@ use Rattle.mq_spec_manager.specs.Units.{freed_item}
 use Rattle.mq_spec_manager.specs.Commands.{follows, renewed, renewed_if, stale_if, switched_if, dropped}
 use Rattle.mq_spec_manager.specs.Triggers.{first_due, serve, serve_by, serve_into, put_trigger, takes_it, trigger_at, trigger_turn}
 use Rattle.mq_spec_manager.specs.Stops.{advance_clock, cut, stop, stop_at, at_rest, stop_changes, release_batch}
-use Rattle.mq_law_manager.proofs.Lists.{bool_case}
+use Rattle.mq_law_image.proofs.from_law_manager.Lists.{bool_case}
 use Rattle.mq_resolve.specs.declared.route.PathStep.TheVariants as steps
 use Rattle.mq_message.specs.declared.place.Holder.TheVariants as holders
 use Rattle.mq_law_image.specs.Bounds.{all_growth, growth}

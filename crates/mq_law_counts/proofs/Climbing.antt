@@ -13,7 +13,7 @@ use Rattle.mq_calls.specs.State.Which.{Nonpersistent}
 use Rattle.mq_calls.specs.Changes.{apply, apply_all, change_connection, kept_in}
 use Rattle.mq_calls.specs.Counts.{starts_of}
 use Rattle.mq_calls.specs.Steps.{Part, do_part, do_all, logged, freeze, note_of, stopped_at}
-use Rattle.mq_law_manager.proofs.Lists.{bool_case}
+use Rattle.mq_law_image.proofs.from_law_manager.Lists.{bool_case}
 use Rattle.mq_law_image.specs.Bounds.{all_growth}
 use Rattle.mq_law_image.proofs.Growing.{Rises, all_rise, changed_sum, le_self, handles_more, mapped_rise, still_rises}
 use Rattle.mq_law_counts.specs.Counts.{Climbs, AreWithin, PartsClimb}

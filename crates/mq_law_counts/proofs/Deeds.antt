@@ -9,13 +9,12 @@ use Rattle.mq_calls.specs.declared.answers.GetAnswer.TheVariants as get_answers
 use Rattle.mq_sc_parse.specs.declared.command.Command.{Command}
 use Rattle.mq_sc_parse.specs.declared.command.Command.TheVariants as commands
 use Rattle.mq_frame.specs.declared.frame.Seen.{Seen}
-use Rattle.mq_history.specs.declared.acts.Act.TheVariants as acts
-use Rattle.mq_history.specs.declared.calls.Call.TheVariants as calls
-use Rattle.mq_history.specs.declared.calls.Chance.{Chance}
-use Rattle.mq_history.specs.declared.calls.Chance.TheVariants as chances
-use Rattle.mq_history.specs.declared.calls.Reply.{Reply}
-use Rattle.mq_history.specs.declared.calls.Reply.TheVariants as replies
-use Rattle.mq_history.specs.declared.acts.Acted.TheVariants as acted
+use Rattle.mq_spec_node.specs.from_history.ActVariants as acts
+use Rattle.mq_spec_node.specs.from_history.CallVariants as calls
+use Rattle.mq_spec_node.specs.from_history.{Chance, Reply}
+use Rattle.mq_spec_node.specs.from_history.ChanceVariants as chances
+use Rattle.mq_spec_node.specs.from_history.ReplyVariants as replies
+use Rattle.mq_spec_node.specs.from_history.ActedVariants as acted
 use Rattle.mq_calls.specs.declared.commands.ScRefusal.TheVariants as refusals
 use Rattle.mq_objects.specs.declared.object.LocalQueue.{LocalQueue}
 use Rattle.mq_objects.specs.Names.{locals_of}

@@ -19,8 +19,8 @@ use Rattle.mq_calls.specs.Reads.{stored, queue_in, puts_to, is_put_to, connectio
 use Rattle.mq_calls.specs.Changes.{apply, apply_all, set_queue, placed_in, lane_of, made_due, depth_type, try_if, change_connection}
 use Rattle.mq_calls.specs.Counts.{starts_of}
 use Rattle.mq_spec_manager.specs.Units.{placed_item, taken_item, commit_changes}
-use Rattle.mq_law_manager.proofs.Lists.{bool_case}
-use Rattle.mq_law_manager.proofs.Named.{name_is, queue_set, found_name}
+use Rattle.mq_law_image.proofs.from_law_manager.Lists.{bool_case}
+use Rattle.mq_law_image.proofs.from_law_manager.Named.{name_is, queue_set, found_name}
 use Rattle.mq_law_image.specs.Bounds.{all_growth}
 use Rattle.mq_law_image.proofs.Growing.{change_rises, le_self, handles_more}
 use Rattle.mq_law_counts.specs.Counts.{Climbs}

@@ -1,5 +1,5 @@
 -- The counters of a manager at its first start.
-use Rattle.std.proofs.Common.{ℕ, ◌≡◌, ◌+◌, ◌≤◌, List, [], ◌∷◌, length, refl, arith, map, inl, inr}
+use Rattle.std.proofs.Common.{ℕ, ◌≡◌, ◌+◌, ◌≤◌, List, [], ◌∷◌, length, refl, arith, map}
 use Rattle.std.specs.Prelude.{if◌then◌else◌}
 use Rattle.std.specs.Str.{bytes_eq}
 use Rattle.mq_calls.specs.State.{Given}
@@ -8,19 +8,13 @@ use Rattle.mq_calls.specs.Images.{queue_on}
 use Rattle.mq_calls.specs.declared.image.Image.{Image}
 use Rattle.mq_calls.specs.declared.image.Shelf.{Shelf}
 use Rattle.mq_spec_manager.specs.Stops.{first_start}
-use Rattle.mq_law_manager.specs.Facts.{Mem}
-use Rattle.mq_law_manager.proofs.Lists.{bool_case}
+use Rattle.mq_law_image.specs.from_law_manager.Facts.{Mem}
+use Rattle.mq_law_image.proofs.from_law_manager.Lists.{bool_case}
+use Rattle.mq_law_image.proofs.Counting.{first_arrivals as opened_arrivals}
 use Rattle.mq_law_counts.specs.Counts.{AreWithin}
 
 none_left : (most : ℕ) → 0 ≤ most
 none_left most = omega arith
-
-opened_arrivals : (most : ℕ) (name : List ℕ) (ss : List Shelf) → ((s : Shelf) → Mem s ss → length s.rows ≤ most) → (queue_in name (map queue_on ss)).arrivals + 0 ≤ most
-opened_arrivals most name [] h = none_left most
-opened_arrivals most name (s ∷ ss) h = bool_case (bytes_eq name s.name) (λ b. (if b then queue_on s else queue_in name (map queue_on ss)).arrivals + 0 ≤ most) (λ e. on (length s.rows) (h s (inl refl))) (λ e. opened_arrivals most name ss (λ t m. h t (inr m)))
-  where
-    on : (a : ℕ) → a ≤ most → a + 0 ≤ most
-    on a le = omega (arith, le)
 
 opened_due : (name : List ℕ) (ss : List Shelf) → (queue_in name (map queue_on ss)).due ≡ 0
 opened_due name [] = refl

@@ -10,7 +10,7 @@ ghost use Rattle.mq_spec_node.specs.Words.{Node, event};
 ghost use Rattle.mq_spec_manager.specs.Stops.{first_start};
 ghost use Rattle.std.specs.List.{AllByRecursion};
 ghost use Rattle.mq_calls.specs.Counts.{IsCounted};
-ghost use Rattle.mq_law_manager.specs.Facts.{Mem, AreNamed};
+ghost use Rattle.mq_law_image.specs.from_law_manager.Facts.{Mem, AreNamed};
 ghost use Rattle.mq_law_counts.specs.Counts.{Climbs, AreWithin, IsCountedCall};
 
 /// An event of a node raises the counters of its manager by three at most, whatever comes from outside: so where they are at most

@@ -14,7 +14,7 @@ use Rattle.mq_spec_network.specs.Standing.{opening_managers}
 use Rattle.mq_spec_network.specs.Story.{Line, Mem}
 use Rattle.mq_law_channel.specs.Channel.{Channel, Past}
 use Rattle.mq_law_manager.proofs.Lists.{bool_case, name_yes}
-use Rattle.mq_law_rows.proofs.Lists.{and_left, and_right}
+use Rattle.mq_law_turns.proofs.from_law_rows.Lists.{and_left, and_right}
 use Rattle.mq_law_node.specs.Nodes.{FarAgreed, has_received, is_received}
 use Rattle.mq_law_turns.specs.Agreed.{IsToldOf}
 use Rattle.mq_law_turns.proofs.Agreeing as agreeing

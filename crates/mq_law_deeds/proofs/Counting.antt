@@ -43,11 +43,11 @@ use Rattle.mq_spec_network.specs.Ledger as ledgers
 use Rattle.mq_spec_network.specs.Ledger.{Ledger, Users}
 use Rattle.mq_law_manager.proofs.Lists.{bool_case, mem_append}
 use Rattle.mq_law_manager.proofs.Removals.{mem_filter}
-use Rattle.mq_law_rows.proofs.Lists.{map_mem, mem_map}
-use Rattle.mq_law_events.specs.Tied.{IsTold, connections_told}
-use Rattle.mq_law_events.proofs.Taking.{gone_users}
-use Rattle.mq_law_events.proofs.Telling.{here_changed}
-use Rattle.mq_law_receipts.specs.Receipts.{AreNumbered}
+use Rattle.mq_law_turns.proofs.from_law_rows.Lists.{map_mem, mem_map}
+use Rattle.mq_law_turns.specs.from_law_events.Tied.{IsTold, connections_told}
+use Rattle.mq_law_turns.proofs.from_law_events.Taking.{gone_users}
+use Rattle.mq_law_turns.proofs.from_law_events.Telling.{here_changed}
+use Rattle.mq_law_turns.specs.from_law_receipts.Receipts.{AreNumbered}
 use Rattle.mq_law_deeds.specs.Numbers.{AreCounted, AreCountedAt, IsNext, numbers_of}
 
 -- Lists of connections

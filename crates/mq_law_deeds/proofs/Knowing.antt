@@ -3,7 +3,7 @@ use Rattle.std.proofs.Common.{◌∙◌, ℕ, ◌≡◌, ◌⊎◌, Bool, true, 
 use Rattle.std.specs.Prelude.{Option, Some, None, if◌then◌else◌, not, ◌==◌, ◌||◌}
 use Rattle.std.specs.Str.{bytes_eq}
 use Rattle.mq_frame.specs.declared.frame.Seen.{Seen}
-use Rattle.mq_objects.specs.Names.{channel_of, local_of}
+use Rattle.mq_objects.specs.Names.{channel_of}
 use Rattle.mq_sync.specs.declared.unit.Settle.{Settle}
 use Rattle.mq_sync.specs.declared.unit.Settle.TheVariants as settles
 use Rattle.mq_sync.specs.declared.data.InDoubt.{InDoubt}
@@ -21,12 +21,10 @@ use Rattle.mq_sender.specs.States as senders
 use Rattle.mq_sender.specs.Table.{sender_next}
 use Rattle.mq_receiver.specs.States as receivers
 use Rattle.mq_receiver.specs.Table.{receiver_next}
-use Rattle.mq_calls.specs.State.{Plain}
 use Rattle.mq_calls.specs.State.Change.{Seize}
-use Rattle.mq_calls.specs.Reads.{batch_of, has_held_by_other, in_doubt_of, is_open_for_input, is_up, receiver_data, sender_data}
-use Rattle.mq_calls.specs.Steps.{Step, Test, refusal, silent, when, refused_or as steps_refused_or}
+use Rattle.mq_calls.specs.Reads.{batch_of, in_doubt_of, is_up, receiver_data, sender_data}
+use Rattle.mq_calls.specs.Steps.{Step, refusal, silent, refused_or as steps_refused_or}
 use Rattle.mq_calls.specs.Steps.Step.{Refuse, Do}
-use Rattle.mq_spec_manager.specs.Handles.{is_transmission_queue}
 use Rattle.mq_spec_manager.specs.Agents.{channel_queue, harden, leave, release_of, seize, set_bound, stock}
 use Rattle.mq_spec_node.specs.Node.{Node, ReceiverEnd, SenderEnd, receiver_end, sender_end, sender_named}
 use Rattle.mq_spec_node.specs.Node.ChannelEnd.{Sends, Receives}
@@ -42,7 +40,7 @@ use Rattle.mq_law_node.specs.Ends.{SendsAs, Where}
 use Rattle.mq_law_node.specs.Quiet.{IsOrdinary}
 use Rattle.mq_law_node.proofs.Deeds.{deed_has}
 use Rattle.mq_law_node.proofs.Named.{bool_case}
-use Rattle.mq_law_node.proofs.NearDoes.{here_case, named_case, near_does_all, option_case, reset_apart, reset_moves, reset_taking, resolve_apart, resolve_moves, start_apart, start_moves, start_taking, stop_apart, stop_moves, stop_taking}
+use Rattle.mq_law_node.proofs.NearDoes.{here_case, named_case, near_does_all, option_case, reset_apart, reset_moves, reset_taking, resolve_apart, resolve_moves, start_apart, start_moves, start_taking, stop_apart, stop_moves, stop_taking, seize_tests}
 use Rattle.mq_law_node.proofs.Aside.{EachApart, timeouts_apart, turns_apart}
 use Rattle.mq_law_node.proofs.Ordinary.{ordinary_is_quiet}
 use Rattle.mq_law_turns.specs.Turns.{EachForOthers, parts_for_others}
@@ -71,12 +69,6 @@ StepForOthers c (Do reply parts) = parts_for_others c parts ≡ true
 seize_refused : (c : List ℕ) (o : Option SeizeFault) (s : Step SeizeFault (Unit {0})) → StepForOthers c s → StepForOthers c (steps_refused_or o s)
 seize_refused c None s h = h
 seize_refused c (Some fault) s h = tt
-
-abbrev seize_tests : List ℕ → List ℕ → Plain → List (Test SeizeFault)
-seize_tests channel queue p =
-    when (not (is_transmission_queue (local_of queue p.definitions))) seize_faults.BadQueue
-    ∷ when (is_open_for_input queue p || has_held_by_other channel queue p) seize_faults.QueueInUse
-    ∷ []
 
 seize_others : (c channel : List ℕ) (n : Node) → StepForOthers c (seize channel n.manager)
 seize_others c channel n = seize_refused c (refusal (seize_tests channel (channel_queue (channel_of channel n.manager.definitions)) n.manager))

@@ -5,3 +5,5 @@ pub mod Rising
 pub mod Sounding
 pub mod Telling
 pub mod Agreeing
+pub mod from_law_keys
+pub mod from_law_unshared

@@ -10,7 +10,7 @@ use Rattle.mq_receiver.specs.declared.turns.ReceiverDoes.TheVariants as takes
 use Rattle.mq_receiver.specs.After.{last_by}
 use Rattle.mq_sync.specs.Settlement.{receiver_or}
 use Rattle.mq_calls.specs.declared.deltas.Did.TheVariants as did
-use Rattle.mq_calls.specs.State.{Change, Plain}
+use Rattle.mq_calls.specs.State.{Change}
 use Rattle.mq_calls.specs.State.Change.{Hold, SetReceiver}
 use Rattle.mq_calls.specs.Reads.{batch_of, is_full, receiver_data}
 use Rattle.mq_calls.specs.Sizes.{need}
@@ -21,7 +21,7 @@ use Rattle.mq_spec_node.specs.Deeds.{Deed}
 use Rattle.mq_spec_node.specs.Receivers.{place_deed, receiver_deed_by}
 use Rattle.mq_law_node.specs.Ends.{Where}
 use Rattle.mq_law_node.specs.Quiet.{EachQuiet, is_quiet, parts_apart, parts_quiet}
-use Rattle.mq_law_seized.proofs.Each.{parts_weaker}
+use Rattle.mq_law_unshared.proofs.from_law_seized.Each.{parts_weaker}
 use Rattle.mq_law_node.proofs.Named.{bool_case}
 use Rattle.mq_law_node.proofs.DataLaws.{batch_done_all}
 use Rattle.mq_law_node.proofs.Aside.{EachApart, batch_parts_apart}
@@ -30,6 +30,7 @@ use Rattle.mq_law_node.proofs.AsideTakings.{QuietBatch, landed_batch}
 use Rattle.mq_law_node.proofs.Landings.{batch_changes}
 use Rattle.mq_law_node.proofs.ReceiverTurns.{placed_by}
 use Rattle.mq_law_turns.specs.Turns.{EachForOthers, is_for_others, parts_for_others}
+use Rattle.mq_law_node.proofs.FarAside.{placed_part as commit_part}
 
 -- it holds no row for the channel, and leaves its batch
 abbrev pub Rests : Where → Node → Deed → Type 0
@@ -64,13 +65,6 @@ apart_rests w n (Some d) a f = (f, apart_batch w n d a.1)
 abbrev EachSame : Where → Node → Option Deed → Type 0
 EachSame w n None = Unit {0}
 EachSame w n (Some d) = batch_of w.channel (do_all d.parts n.manager).channels.batches ≡ batch_of w.channel n.manager.channels.batches
-
-abbrev commit_part : ReceiverEnd → Luw → ℕ → Landed → Plain → Part
-commit_part e unit last l p = record {
-  forced = Some (received_record e.channel unit last l);
-  changes = l.changes ++ SetReceiver e.channel (record (receiver_or (receiver_data e.channel p)) { unit = unit; last = last }) ∷ [];
-  delta = l.delta ++ did.Received e.channel unit ∷ [];
-}
 
 places_same : (w : Where) (e : ReceiverEnd) (unit : Luw) (seen : Seen) (last : ℕ) (res : Result Landed Reason) (n : Node) → QuietBatch w.channel res → EachSame w n (Some (place_deed e unit seen (receive_landed e.channel unit last res n.manager) n))
 places_same w e unit seen last (Err reason) n quiet = refl

@@ -46,8 +46,8 @@ ghost use Rattle.mq_history.specs.declared.calls.Reply.{Reply};
 ghost use Rattle.mq_calls.specs.State.{Plain};
 ghost use Rattle.mq_spec_network.specs.Ledger as ledgers;
 ghost use Rattle.mq_spec_network.specs.Ledger.{Ledger};
-ghost use Rattle.mq_law_events.specs.Tied.{IsTold};
-ghost use Rattle.mq_law_receipts.specs.Receipts.{AreNumbered};
+ghost use Rattle.mq_law_turns.specs.from_law_events.Tied.{IsTold};
+ghost use Rattle.mq_law_turns.specs.from_law_receipts.Receipts.{AreNumbered};
 ghost use Rattle.mq_law_deeds.specs.Deeds.{EachKnown, each_delta};
 ghost use Rattle.mq_law_deeds.specs.Numbers.{AreCountedAt, EachNext, IsNext};
 

@@ -19,22 +19,21 @@ use Rattle.mq_objects.specs.declared.command.Subject.TheVariants as subjects
 use Rattle.mq_objects.specs.declared.change.ObjectChange.{ObjectChange}
 use Rattle.mq_objects.specs.declared.change.ObjectChange.TheVariants as changes
 use Rattle.mq_objects.specs.Names.{local_of, name_of}
-use Rattle.mq_sc_apply.specs.declared.answers.Planned.{Planned}
-use Rattle.mq_sc_apply.specs.declared.answers.Plan.{Plan}
-use Rattle.mq_sc_apply.specs.declared.answers.Plan.TheVariants as plans
-use Rattle.mq_sc_apply.specs.Commands.{plan, to_change}
-use Rattle.mq_sc_apply.specs.Planned.{define, alter, alter_manager, delete}
-use Rattle.mq_sc_apply.specs.Uses.{Uses}
+use Rattle.mq_spec_manager.specs.from_sc_apply.{Plan, ThePlanned as Planned}
+use Rattle.mq_spec_manager.specs.from_sc_apply.PlanVariants as plans
+use Rattle.mq_spec_manager.specs.from_sc_apply.Commands.{plan, to_change}
+use Rattle.mq_spec_manager.specs.from_sc_apply.Planned.{define, alter, alter_manager, delete}
+use Rattle.mq_spec_manager.specs.from_sc_apply.Uses.{Uses}
 use Rattle.mq_calls.specs.declared.commands.Shown.{Shown}
 use Rattle.mq_objects.specs.declared.command.Command.TheVariants as object_commands
-use Rattle.mq_sc_parse.specs.declared.command.Command.TheVariants as lines
+use Rattle.mq_law_seen.specs.from_sc_parse.CommandVariants as lines
 use Rattle.mq_calls.specs.declared.answers.Appl.{Appl}
 use Rattle.mq_calls.specs.declared.answers.Hconn.{Hconn}
 use Rattle.mq_calls.specs.declared.answers.Hobj.{Hobj}
 use Rattle.mq_calls.specs.declared.answers.Open.{Open}
 use Rattle.mq_calls.specs.declared.state.Connection.{Connection}
 use Rattle.mq_calls.specs.declared.state.Handle.{Handle}
-use Rattle.mq_history.specs.declared.story.ManagerPlaces.{ManagerPlaces}
+use Rattle.mq_law_seen.specs.from_history.{ManagerPlaces}
 use Rattle.mq_calls.specs.State.{Plain, Given, Change, Channels, Numbers}
 use Rattle.mq_calls.specs.State.Change.{Connect, OpenHandle, CloseHandle, SetCursor, MakeStale, ChangeObjects, Renew, DropQueue, SwitchOn, Serve}
 use Rattle.mq_calls.specs.Reads.{stored, connection_at, has_step}
@@ -42,9 +41,9 @@ use Rattle.mq_calls.specs.Changes.{apply, apply_all, change_connection, change_h
 use Rattle.mq_spec_manager.specs.Handles.{new_connection, new_hconn, new_handle}
 use Rattle.mq_spec_manager.specs.Commands.{follows, renewed, renewed_if, stale_if, switched_if, dropped, uses_of, definitions_after}
 use Rattle.mq_spec_manager.proofs.Accepted.{accepted, displayed}
-use Rattle.mq_spec_network.specs.Ledger as ledgers
-use Rattle.mq_spec_network.specs.Ledger.{Ledger, Users, places_or, opened_by, close, unit_of, ledger_rows, rows_in, with_users}
-use Rattle.mq_law_rows.proofs.Lists.{bool_case, name_yes}
+use Rattle.mq_law_seen.specs.from_spec_network.Ledger as ledgers
+use Rattle.mq_law_seen.specs.from_spec_network.Ledger.{Ledger, Users, places_or, opened_by, close, unit_of, ledger_rows, rows_in, with_users}
+use Rattle.mq_law_seen.proofs.from_law_rows.Lists.{bool_case, name_yes}
 use Rattle.mq_law_manager.specs.Facts.{AreDefined}
 use Rattle.mq_law_manager.proofs.Commanding.{IsEmptied, IsPlan, plan_is, undefined_empty}
 use Rattle.mq_law_manager.proofs.Units.{behind}

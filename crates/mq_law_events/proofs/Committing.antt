@@ -18,15 +18,15 @@ use Rattle.mq_calls.specs.Reads.{stored, connection_at}
 use Rattle.mq_calls.specs.Changes.{apply, apply_all, release_if, change_connection, lane_of, new_row}
 use Rattle.mq_spec_manager.specs.Put.{placed}
 use Rattle.mq_spec_manager.specs.Units.{taken_item, placed_item, freed_item}
-use Rattle.mq_spec_network.specs.Ledger as ledgers
-use Rattle.mq_spec_network.specs.Ledger.{Ledger, Users, places_at, users_or, is_placed_at, take_got, take_items, place_items, ledger_rows, unit_of}
+use Rattle.mq_law_seen.specs.from_spec_network.Ledger as ledgers
+use Rattle.mq_law_seen.specs.from_spec_network.Ledger.{Ledger, Users, places_at, users_or, is_placed_at, take_got, take_items, place_items, ledger_rows, unit_of}
 use Rattle.mq_objects.specs.Names.{local_of}
-use Rattle.mq_spec_network.specs.Standing.{row_told}
-use Rattle.mq_spec_network.specs.Story.{Mem}
-use Rattle.mq_law_rows.specs.World.{World, Book, Ghost, Owner, Unborn, At, HeldBy, InBatch, Forced, InUnit, InHand, Gone, IsHeldBy, IsElsewhere, Inv, claim, items_told, got_idents}
-use Rattle.mq_law_rows.specs.Kinds.{among, puts_of, bury_all}
-use Rattle.mq_law_rows.proofs.Lists.{bool_case, is_false, true_false, eqb_self, eqb_yes, ident_yes, keep_same, keep_all, and_right}
-use Rattle.mq_law_rows.proofs.Owners.{row_where}
+use Rattle.mq_law_seen.specs.from_spec_network.Standing.{row_told}
+use Rattle.mq_law_seen.specs.from_spec_network.Story.{Mem}
+use Rattle.mq_law_seen.specs.from_law_rows.World.{World, Book, Ghost, Owner, Unborn, At, HeldBy, InBatch, Forced, InUnit, InHand, Gone, IsHeldBy, IsElsewhere, Inv, claim, items_told, got_idents}
+use Rattle.mq_law_seen.specs.from_law_rows.Kinds.{among, puts_of, bury_all}
+use Rattle.mq_law_seen.proofs.from_law_rows.Lists.{bool_case, is_false, true_false, eqb_self, eqb_yes, ident_yes, keep_same, keep_all, and_right}
+use Rattle.mq_law_seen.proofs.from_law_rows.Owners.{row_where}
 use Rattle.mq_law_manager.proofs.SeenLaws.{mapped_one}
 use Rattle.mq_law_events.specs.Local.{Side, Sheet, local, page, with_owner, Leads, side_of, sheet_of}
 use Rattle.mq_law_events.specs.Tied.{connection_told, IsTold, IsFresh, IsElse, Follow}

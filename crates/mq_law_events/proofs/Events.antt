@@ -21,7 +21,7 @@ use Rattle.mq_calls.specs.declared.state.Connection.{Connection}
 use Rattle.mq_calls.specs.declared.state.Handle.{Handle}
 use Rattle.mq_calls.specs.declared.state.Item.{Item}
 use Rattle.mq_calls.specs.declared.state.Item.TheVariants.{Put, Take}
-use Rattle.mq_history.specs.declared.calls.Reply.TheVariants as replies
+use Rattle.mq_law_seen.specs.from_history.ReplyVariants as replies
 use Rattle.mq_calls.specs.State.{Plain, Change, LogState}
 use Rattle.mq_calls.specs.State.Change.{CountIdent, Connect, OpenHandle, CloseHandle, Pend, EndUnit}
 use Rattle.mq_calls.specs.Reads.{connection_at, handle_at}
@@ -32,9 +32,9 @@ use Rattle.mq_calls.specs.Steps.Step.{Do}
 use Rattle.mq_spec_manager.specs.Handles.{is_unfit, connected, for_connection, for_handle, live_or, is_other, is_present, mqconn, mqopen, mqclose, open_tests, open_step, option_tests, conn_tests, close_up, close_handle, new_connection, new_hconn, new_handle}
 use Rattle.mq_spec_manager.specs.Put.{output_only, here, unit_record, mqput, mqput1, put_up, put_handle, put_route, put_part, put1_resolved, handle_route, output_tests, put_tests, placed, queue_at, message_put, new_message, next_ident, is_high, sent_answer}
 use Rattle.mq_spec_manager.specs.Units.{released_did, commit_changes, commit_delta, mqcmit, mqback, commit_part, backout_part, removed_item, placed_did, taken_item, placed_item, freed_item}
-use Rattle.mq_spec_network.specs.Ledger as ledgers
-use Rattle.mq_spec_network.specs.Ledger.{Ledger, places_or, users_or, take_all_gone, connect_if, open_if, close_if, when, is_ended, sent_ident}
-use Rattle.mq_law_rows.proofs.Lists.{bool_case, eqb_yes}
+use Rattle.mq_law_seen.specs.from_spec_network.Ledger as ledgers
+use Rattle.mq_law_seen.specs.from_spec_network.Ledger.{Ledger, places_or, users_or, take_all_gone, connect_if, open_if, close_if, when, is_ended, sent_ident}
+use Rattle.mq_law_seen.proofs.from_law_rows.Lists.{bool_case, eqb_yes}
 use Rattle.mq_law_manager.proofs.SeenLaws.{mapped_one}
 use Rattle.mq_law_manager.proofs.Units.{behind, found_number}
 use Rattle.mq_law_events.specs.Tied.{connection_told, IsTold, IsFresh, Follow}

@@ -3,17 +3,15 @@ use Rattle.std.proofs.Common.{ℕ, ◌≡◌, ◌≢◌, Bool, true, false, not,
 use Rattle.std.specs.Prelude.{Option, Some, None, ◌==◌, if◌then◌else◌, ◌&&◌}
 use Rattle.std.specs.Str.{bytes_eq}
 use Rattle.mq_message.specs.declared.message.Ident.{Ident}
-use Rattle.mq_message.specs.declared.place.Place.{Place}
 use Rattle.mq_message.specs.declared.place.Want.{Want}
 use Rattle.mq_message.specs.declared.place.Holder.TheVariants as holders
 use Rattle.mq_queue.specs.declared.row.Row.{Row}
-use Rattle.mq_queue.specs.Rows.{is_free, is_after, is_wanted}
+use Rattle.mq_queue.specs.Rows.{is_free, is_wanted}
 use Rattle.mq_calls.specs.declared.answers.Get.{Get}
 use Rattle.mq_calls.specs.declared.answers.Got.{Got}
 use Rattle.mq_calls.specs.declared.answers.GetAnswer.TheVariants.{Done}
 use Rattle.mq_calls.specs.declared.answers.Hconn.{Hconn}
 use Rattle.mq_calls.specs.declared.answers.Hobj.{Hobj}
-use Rattle.mq_calls.specs.declared.answers.Take.{Take}
 use Rattle.mq_calls.specs.declared.answers.Take.TheVariants as takes
 use Rattle.mq_calls.specs.declared.deltas.Did.{Did}
 use Rattle.mq_calls.specs.declared.deltas.Why.TheVariants as whys
@@ -21,7 +19,7 @@ use Rattle.mq_calls.specs.declared.records.LogRecord.{LogRecord}
 use Rattle.mq_calls.specs.declared.state.Connection.{Connection}
 use Rattle.mq_calls.specs.declared.state.Handle.{Handle}
 use Rattle.mq_calls.specs.declared.state.Item.TheVariants.{Take as Taken}
-use Rattle.mq_history.specs.declared.calls.Reply.TheVariants as replies
+use Rattle.mq_law_seen.specs.from_history.ReplyVariants as replies
 use Rattle.mq_calls.specs.State.{Plain, Given}
 use Rattle.mq_calls.specs.State.Change.{Leave, SetCursor, Hold, Pend}
 use Rattle.mq_calls.specs.State.Which.{Among}
@@ -30,17 +28,17 @@ use Rattle.mq_calls.specs.Changes.{apply}
 use Rattle.mq_calls.specs.Steps.{Part, silent, logged, do_part, do_all, delta_of}
 use Rattle.mq_spec_manager.specs.Handles.{connected}
 use Rattle.mq_spec_manager.specs.Put.{queue_at}
-use Rattle.mq_spec_manager.specs.Get.{scan_row, scan, scanned, asked, is_at, looked_at, is_destructive, is_left, is_too_long, is_under, is_waiting, got, got_answer, removal_record, expired_parts, persistent_rows, idents_of, taking_part, found_part, with_row, without_row, get_found, get_handle, get_up, get_tests, room_tests, mqget}
-use Rattle.mq_spec_network.specs.Ledger as ledgers
-use Rattle.mq_spec_network.specs.Ledger.{Ledger, take_all_gone, take_gone, got_ident, get_by, get_row}
-use Rattle.mq_spec_network.specs.Story.{Mem}
-use Rattle.mq_law_rows.specs.World.{ident_of}
-use Rattle.mq_law_rows.specs.Kinds.{among}
-use Rattle.mq_law_rows.proofs.Lists.{bool_case, is_false, mem_kept, mem_keep, and_right}
+use Rattle.mq_spec_manager.specs.Get.{scan_row, scan, scanned, asked, looked_at, is_destructive, is_left, is_too_long, is_under, is_waiting, got, got_answer, removal_record, expired_parts, persistent_rows, idents_of, taking_part, found_part, with_row, without_row, get_found, get_handle, get_up, get_tests, room_tests, mqget}
+use Rattle.mq_law_seen.specs.from_spec_network.Ledger as ledgers
+use Rattle.mq_law_seen.specs.from_spec_network.Ledger.{Ledger, take_all_gone, take_gone, got_ident, get_by, get_row}
+use Rattle.mq_law_seen.specs.from_spec_network.Story.{Mem}
+use Rattle.mq_law_seen.specs.from_law_rows.World.{ident_of}
+use Rattle.mq_law_seen.specs.from_law_rows.Kinds.{among}
+use Rattle.mq_law_seen.proofs.from_law_rows.Lists.{bool_case, is_false, mem_kept, mem_keep, and_right}
 use Rattle.mq_law_manager.specs.Facts.{Differ}
 use Rattle.mq_law_manager.proofs.Lists.{one_row}
 use Rattle.mq_law_manager.proofs.Steps.{free_is}
-use Rattle.mq_law_manager.proofs.Removals.{mem_filter, differ_filter, among_rows, scan_free, scan_found, scan_apart}
+use Rattle.mq_law_manager.proofs.Removals.{among_rows, scan_free, scan_found, scan_apart, looked_mem, looked_differ}
 use Rattle.mq_law_manager.proofs.Units.{found_number}
 use Rattle.mq_law_events.specs.Tied.{IsTold, IsFresh, Follow}
 use Rattle.mq_law_events.specs.Posting.{StepFollows, post_get}
@@ -131,20 +129,6 @@ left_connections q (x ∷ xs) p = go (removal_record q (persistent_rows (x ∷ x
     go (Some r) = refl
 
 -- The row that is found
-
-looked_mem : (take : Take) (cursor : Option Place) (rows : List Row) (r : Row) → Mem r (looked_at take cursor rows) → Mem r rows
-looked_mem takes.Next cursor rows r m = m
-looked_mem takes.BrowseFirst cursor rows r m = m
-looked_mem takes.BrowseNext cursor rows r m = (mem_filter r (is_after cursor) rows m).0
-looked_mem takes.UnderCursor cursor rows r m = (mem_filter r (is_at cursor) rows m).0
-looked_mem takes.BrowseUnder cursor rows r m = (mem_filter r (is_at cursor) rows m).0
-
-looked_differ : (take : Take) (cursor : Option Place) (rows : List Row) → Differ ident_of rows → Differ ident_of (looked_at take cursor rows)
-looked_differ takes.Next cursor rows d = d
-looked_differ takes.BrowseFirst cursor rows d = d
-looked_differ takes.BrowseNext cursor rows d = differ_filter ident_of (is_after cursor) rows d
-looked_differ takes.UnderCursor cursor rows d = differ_filter ident_of (is_at cursor) rows d
-looked_differ takes.BrowseUnder cursor rows d = differ_filter ident_of (is_at cursor) rows d
 
 expired_differ : (want : Want) (p : Plain) (rows : List Row) → Differ ident_of rows → Differ ident_of (scan want p rows).expired
 expired_differ want p [] d = tt

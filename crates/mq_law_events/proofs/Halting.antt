@@ -21,10 +21,10 @@ use Rattle.mq_calls.specs.Steps.Step.{Refuse, Do}
 use Rattle.mq_spec_manager.specs.Handles.{connected}
 use Rattle.mq_spec_manager.specs.Put.{queue_at}
 use Rattle.mq_spec_manager.specs.Get.{got, got_answer, is_too_long, found_part, mqget, get_up, get_handle, get_tests, room_tests, get_found, scanned, expired_parts, removal_part, is_under, is_waiting, is_left, with_row, without_row}
-use Rattle.mq_spec_network.specs.Ledger as ledgers
-use Rattle.mq_spec_network.specs.Ledger.{Ledger, take_all_gone}
-use Rattle.mq_spec_network.specs.Story.{Mem}
-use Rattle.mq_law_rows.specs.World.{ident_of}
+use Rattle.mq_law_seen.specs.from_spec_network.Ledger as ledgers
+use Rattle.mq_law_seen.specs.from_spec_network.Ledger.{Ledger, take_all_gone}
+use Rattle.mq_law_seen.specs.from_spec_network.Story.{Mem}
+use Rattle.mq_law_seen.specs.from_law_rows.World.{ident_of}
 use Rattle.mq_law_manager.specs.Facts.{Differ}
 use Rattle.mq_law_events.specs.Tied.{IsTold, IsFresh}
 use Rattle.mq_law_events.specs.Posting.{StopFollows}

@@ -8,7 +8,7 @@ use Rattle.mq_calls.specs.declared.answers.Hconn.{Hconn}
 use Rattle.mq_calls.specs.declared.records.LogRecord.{LogRecord}
 use Rattle.mq_calls.specs.declared.state.Connection.{Connection}
 use Rattle.mq_calls.specs.declared.answers.Answer.TheVariants as answers
-use Rattle.mq_history.specs.declared.calls.Reply.TheVariants as replies
+use Rattle.mq_law_seen.specs.from_history.ReplyVariants as replies
 use Rattle.mq_calls.specs.State.{Plain, Change}
 use Rattle.mq_calls.specs.State.Change.{Disconnect}
 use Rattle.mq_calls.specs.Reads.{connection_at}
@@ -17,9 +17,9 @@ use Rattle.mq_calls.specs.Steps.{Part, logged, do_part, note_of}
 use Rattle.mq_calls.specs.Steps.Step.{Do}
 use Rattle.mq_spec_manager.specs.Handles.{connected}
 use Rattle.mq_spec_manager.specs.Units.{mqdisc, commit_part}
-use Rattle.mq_spec_network.specs.Ledger as ledgers
-use Rattle.mq_spec_network.specs.Ledger.{Ledger, when, is_ended, unit_of}
-use Rattle.mq_law_rows.proofs.Lists.{bool_case, eqb_yes}
+use Rattle.mq_law_seen.specs.from_spec_network.Ledger as ledgers
+use Rattle.mq_law_seen.specs.from_spec_network.Ledger.{Ledger, when, is_ended, unit_of}
+use Rattle.mq_law_seen.proofs.from_law_rows.Lists.{bool_case, eqb_yes}
 use Rattle.mq_law_manager.proofs.Units.{found_number}
 use Rattle.mq_law_events.specs.Tied.{IsTold, IsFresh, Follow}
 use Rattle.mq_law_events.specs.Posting.{IsListed, StepFollows, StopFollows}

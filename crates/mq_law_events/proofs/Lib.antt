@@ -14,3 +14,6 @@ pub mod Sounds
 pub mod Serving
 pub mod Halting
 pub mod Moving
+pub mod from_law_manager
+pub mod from_law_rows
+pub mod from_law_seen

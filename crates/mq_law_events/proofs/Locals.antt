@@ -11,17 +11,17 @@ use Rattle.mq_calls.specs.declared.state.Item.{Item}
 use Rattle.mq_calls.specs.declared.state.Item.TheVariants.{Put, Take}
 use Rattle.mq_calls.specs.Reads.{is_persistent}
 use Rattle.mq_calls.specs.Changes.{retag_if, release_if}
-use Rattle.mq_spec_network.specs.Story.{Mem}
-use Rattle.mq_spec_network.specs.Standing.{row_told}
-use Rattle.mq_law_rows.specs.Families.{is_here}
-use Rattle.mq_law_rows.specs.World.{World, Book, Ghost, Unborn, At, InHand, away, stands, claim, got_idents, items_told, Inv}
-use Rattle.mq_law_rows.specs.Kinds.{after, owned, give, is_row, lift_row, book_lift, among, with_units, book_units, puts_of, bury_all}
-use Rattle.mq_law_rows.proofs.Lists.{bool_case, eqb_self, ident_self, keep_all, mem_keep}
-use Rattle.mq_law_rows.proofs.Lasting.{alike, none_unborn}
-use Rattle.mq_law_rows.proofs.Owners.{owned_self}
-use Rattle.mq_law_rows.proofs.Placing.{gives, places_row, lifts_row, buries}
-use Rattle.mq_law_rows.proofs.Units.{pends, unpends, holds_row, takes_gets, backs_out}
-use Rattle.mq_law_rows.proofs.Settling.{loses}
+use Rattle.mq_law_seen.specs.from_spec_network.Story.{Mem}
+use Rattle.mq_law_seen.specs.from_spec_network.Standing.{row_told}
+use Rattle.mq_law_seen.specs.from_law_rows.Families.{is_here}
+use Rattle.mq_law_seen.specs.from_law_rows.World.{World, Book, Ghost, Unborn, At, InHand, away, stands, claim, got_idents, items_told, Inv}
+use Rattle.mq_law_seen.specs.from_law_rows.Kinds.{after, owned, give, is_row, lift_row, book_lift, among, with_units, book_units, puts_of, bury_all}
+use Rattle.mq_law_seen.proofs.from_law_rows.Lists.{bool_case, eqb_self, same_self, keep_all, mem_keep}
+use Rattle.mq_law_seen.proofs.from_law_rows.Lasting.{alike, none_unborn}
+use Rattle.mq_law_seen.proofs.from_law_rows.Owners.{owned_self}
+use Rattle.mq_law_seen.proofs.from_law_rows.Placing.{gives, places_row, lifts_row, buries}
+use Rattle.mq_law_seen.proofs.from_law_rows.Units.{pends, unpends, holds_row, takes_gets, backs_out}
+use Rattle.mq_law_seen.proofs.from_law_rows.Settling.{loses}
 use Rattle.mq_law_events.specs.Local.{Side, Sheet, local, page, with_owner, Leads}
 
 -- What is told of items that are told is the same.
@@ -134,7 +134,7 @@ pub new_put_leads : (m k : ℕ) (q : List ℕ) (message : Message) (v : Side) (t
 new_put_leads m k q message v t new w g b h =
     let i : Ident = message.ident in
     let a1 = gives (local w m v) g (page b m v t) m i h new in
-    let a2 = pends (give (local w m v) i) (after g (owned i (InHand m))) (page b m v t) m k q message a1 (owned_self i (g.owner i) (InHand m)) (ap (λ z. z || v.given i) (ident_self i))
+    let a2 = pends (give (local w m v) i) (after g (owned i (InHand m))) (page b m v t) m k q message a1 (owned_self i (g.owner i) (InHand m)) (ap (λ z. z || v.given i) (same_self i))
     (λ a d x n e. absurd (none_unborn (local w m v) g (page b m v t) i h new a d x n e)) in
     record {
       owner = _;

@@ -16,7 +16,7 @@ use Rattle.mq_objects.specs.declared.object.Definitions.{Definitions}
 use Rattle.mq_resolve.specs.declared.route.Route.{Route}
 use Rattle.mq_resolve.specs.Resolved.{resolve}
 use Rattle.mq_calls.specs.declared.image.Shelf.{Shelf}
-use Rattle.mq_history.specs.declared.story.ManagerPlaces.{ManagerPlaces}
+use Rattle.mq_law_seen.specs.from_history.{ManagerPlaces}
 use Rattle.mq_calls.specs.State.{Plain}
 use Rattle.mq_calls.specs.State.Change.{Leave}
 use Rattle.mq_calls.specs.State.Which.{Among}
@@ -24,14 +24,14 @@ use Rattle.mq_calls.specs.Reads.{stored, connection_at, is_persistent}
 use Rattle.mq_calls.specs.Changes.{apply, apply_all, lane_of, new_row}
 use Rattle.mq_spec_manager.specs.Put.{placed, queue_at, dest_at}
 use Rattle.mq_spec_manager.specs.Moves.{bare_if}
-use Rattle.mq_spec_network.specs.Ledger as ledgers
-use Rattle.mq_spec_network.specs.Ledger.{Ledger, places_or, places_at, place_at, row_in, rows_in, take_from, leave_queues, move_row, moved_to, resolved_at, ledger_rows, unit_of}
-use Rattle.mq_spec_network.specs.Standing.{row_told}
-use Rattle.mq_spec_network.specs.Story.{Mem}
-use Rattle.mq_law_rows.specs.World.{World, Book, Ghost, At, Inv, away, stands, claim, is_forced}
-use Rattle.mq_law_rows.proofs.Lists.{bool_case, is_false, true_false, eqb_self, ident_yes, ident_self, name_yes, name_self, keep_same}
-use Rattle.mq_law_rows.proofs.Owners.{standing_row, ledger_row}
-use Rattle.mq_law_rows.proofs.Holding.{only_one}
+use Rattle.mq_law_seen.specs.from_spec_network.Ledger as ledgers
+use Rattle.mq_law_seen.specs.from_spec_network.Ledger.{Ledger, places_or, places_at, place_at, row_in, rows_in, take_from, leave_queues, move_row, moved_to, resolved_at, ledger_rows, unit_of}
+use Rattle.mq_law_seen.specs.from_spec_network.Standing.{row_told}
+use Rattle.mq_law_seen.specs.from_spec_network.Story.{Mem}
+use Rattle.mq_law_seen.specs.from_law_rows.World.{World, Book, Ghost, At, Inv, away, stands, claim, is_forced}
+use Rattle.mq_law_seen.proofs.from_law_rows.Lists.{bool_case, is_false, true_false, eqb_self, ident_yes, same_self, name_yes, name_self, keep_same}
+use Rattle.mq_law_seen.proofs.from_law_rows.Owners.{standing_row, ledger_row}
+use Rattle.mq_law_seen.proofs.from_law_rows.Holding.{only_one}
 use Rattle.mq_law_seen.proofs.Bridges.{takes_from}
 use Rattle.mq_law_manager.specs.Seen.{row_for}
 use Rattle.mq_law_events.specs.Local.{Side, local, page, with_owner, Leads, side_of, sheet_of}
@@ -50,7 +50,7 @@ FoundIn i rows None = (r : Row) → Mem r rows → r.message.ident ≡ i → ⊥
 FoundIn i rows (Some row) = Mem row rows × (row.message.ident ≡ i)
 
 found_later : (i : Ident) (x : Row) (rows : List Row) (o : Option Row) → same_ident x.message.ident i ≡ false → FoundIn i rows o → FoundIn i (x ∷ rows) o
-found_later i x rows None ne f = λ r n e. elim n [ inl q ↦ true_false (sym (ap (λ (y : Row). same_ident y.message.ident i) (sym q) ∙ ap (λ j. same_ident j i) e ∙ ident_self i) ∙ ne) | inr k ↦ f r k e ]
+found_later i x rows None ne f = λ r n e. elim n [ inl q ↦ true_false (sym (ap (λ (y : Row). same_ident y.message.ident i) (sym q) ∙ ap (λ j. same_ident j i) e ∙ same_self i) ∙ ne) | inr k ↦ f r k e ]
 found_later i x rows (Some row) ne f = (inr f.0, f.1)
 
 find_in : (i : Ident) (rows : List Row) → FoundIn i rows (find (has_ident i) rows)

@@ -13,7 +13,7 @@ use Rattle.mq_calls.specs.declared.answers.Hconn.{Hconn}
 use Rattle.mq_calls.specs.declared.state.Connection.{Connection}
 use Rattle.mq_calls.specs.declared.state.Item.{Item}
 use Rattle.mq_calls.specs.declared.state.Item.TheVariants.{Put}
-use Rattle.mq_history.specs.declared.story.ManagerPlaces.{ManagerPlaces}
+use Rattle.mq_law_seen.specs.from_history.{ManagerPlaces}
 use Rattle.mq_calls.specs.State.{Plain, Given, Numbers, Change}
 use Rattle.mq_calls.specs.State.Change.{CountIdent, Pend, Try}
 use Rattle.mq_calls.specs.State.Change.{Place as Places}
@@ -22,11 +22,11 @@ use Rattle.mq_calls.specs.Changes.{apply, apply_all, lane_of, new_row, try_if, c
 use Rattle.mq_calls.specs.Condition.{condition}
 use Rattle.mq_spec_manager.specs.Standing.{is_unborn}
 use Rattle.mq_spec_manager.specs.Put.{placed, next_ident}
-use Rattle.mq_spec_network.specs.Ledger as ledgers
-use Rattle.mq_spec_network.specs.Ledger.{Ledger, Users, place_at, ledger_rows, unit_of}
-use Rattle.mq_spec_network.specs.Standing.{row_told}
-use Rattle.mq_law_rows.specs.World.{items_told}
-use Rattle.mq_law_rows.proofs.Lists.{bool_case, is_false, true_false, eqb_self, ident_yes}
+use Rattle.mq_law_seen.specs.from_spec_network.Ledger as ledgers
+use Rattle.mq_law_seen.specs.from_spec_network.Ledger.{Ledger, Users, place_at, ledger_rows, unit_of}
+use Rattle.mq_law_seen.specs.from_spec_network.Standing.{row_told}
+use Rattle.mq_law_seen.specs.from_law_rows.World.{items_told}
+use Rattle.mq_law_seen.proofs.from_law_rows.Lists.{bool_case, is_false, true_false, eqb_self, ident_yes}
 use Rattle.mq_law_seen.proofs.Bridges.{places_rows}
 use Rattle.mq_law_manager.specs.View.{View, view}
 use Rattle.mq_law_manager.specs.Seen.{AsksNothing, seen, row_for}
@@ -88,7 +88,7 @@ fresh_now given p r new f is same numbers i e =
     ap (λ t. t || given i) ne ∙ f i (unborn_before p i u)
 
 pub known_now : (given : Ident → Bool) (p : Plain) (new i : Ident) → new ≡ next_ident p → (i.manager == p.given.number) ≡ false → now_given new given i ≡ given i
-known_now given p new i is e = ap (λ j. same_ident i j || given i) is ∙ ap (λ t. ((t && (i.incarnation == p.numbers.incarnation)) && (i.number == p.numbers.idents + 1)) || given i) e
+known_now given p new i is e = ap (λ j. same_ident i j || given i) is ∙ ap (λ t. (t && ((i.incarnation == p.numbers.incarnation) && (i.number == p.numbers.idents + 1))) || given i) e
 
 -- to the same, told so
 pub leads_to : (m : ℕ) (v x a : Side) (t y b : Sheet) → Leads m v t x y → x ≡ a → y ≡ b → Leads m v t a b

@@ -8,16 +8,16 @@ use Rattle.mq_queue.specs.declared.row.Row.{Row}
 use Rattle.mq_queue.specs.Rows.{is_by_unit}
 use Rattle.mq_sync.specs.declared.unit.Unit.{Unit as Luw}
 use Rattle.mq_calls.specs.Changes.{release_if}
-use Rattle.mq_spec_network.specs.Story.{Mem}
-use Rattle.mq_spec_network.specs.Promised.{AreDistinct}
-use Rattle.mq_spec_network.specs.Standing.{rows_told}
-use Rattle.mq_law_rows.specs.World.{World, Book, Ghost, Tag, Owner, Unborn, At, HeldBy, InBatch, Forced, InUnit, InHand, Gone, tag_of, ident_of, away, stands, row_stands, is_forced, is_young, claim, IsHeldBy, IsElsewhere, put_idents, got_idents, items_told, Inv}
+use Rattle.mq_law_seen.specs.from_spec_network.Story.{Mem}
+use Rattle.mq_law_seen.specs.from_spec_network.Promised.{AreDistinct}
+use Rattle.mq_law_seen.specs.from_spec_network.Standing.{rows_told}
+use Rattle.mq_law_seen.specs.from_law_rows.World.{World, Book, Ghost, Tag, Owner, Unborn, At, HeldBy, InBatch, Forced, InUnit, InHand, Gone, tag_of, ident_of, away, stands, row_stands, is_forced, is_young, claim, IsHeldBy, IsElsewhere, put_idents, got_idents, items_told, Inv}
 use Rattle.mq_calls.specs.declared.state.Item.TheVariants.{Put}
-use Rattle.mq_law_rows.specs.Kinds.{after}
-use Rattle.mq_law_rows.proofs.Young.{order_ghost}
-use Rattle.mq_law_rows.proofs.Lasting.{lasts}
-use Rattle.mq_law_rows.proofs.Lists.{true_false, and_false, and_left, eqb_self, eqb_yes, bool_case, is_false, mem_retag, mem_retagged, sorted_retag, keep_same, keep_retag}
-use Rattle.mq_law_rows.proofs.Batches.{retag_idents, release_place, release_told, release_tag, release_ident, released, unreleased}
+use Rattle.mq_law_seen.specs.from_law_rows.Kinds.{after}
+use Rattle.mq_law_seen.proofs.from_law_rows.Young.{order_ghost}
+use Rattle.mq_law_seen.proofs.from_law_rows.Lasting.{lasts}
+use Rattle.mq_law_seen.proofs.from_law_rows.Lists.{true_false, and_false, and_left, eqb_self, eqb_yes, bool_case, is_false, mem_retag, mem_retagged, sorted_retag, keep_same, keep_retag}
+use Rattle.mq_law_seen.proofs.from_law_rows.Batches.{retag_idents, release_place, release_told, release_tag, release_ident, released, unreleased}
 use Rattle.mq_law_events.specs.Rests.{has_units, back_out_all, book_out_all, rested}
 
 unit_of_ : (a m : ℕ) (x : Option Holder) → ((a == m) && is_by_unit x) ≡ true → (k : ℕ) × (a ≡ m) × (x ≡ Some (holders.Unit k))

@@ -21,11 +21,11 @@ use Rattle.mq_calls.specs.Steps.{logged, do_part, do_all, delta_of}
 use Rattle.mq_spec_manager.specs.Get.{removal_record, removal_parts, persistent_rows}
 use Rattle.mq_spec_manager.specs.Put.{next_ident}
 use Rattle.mq_spec_manager.specs.Triggers.{trigger_message, put_trigger, serve_into, serve_by, takes_it}
-use Rattle.mq_spec_network.specs.Ledger as ledgers
-use Rattle.mq_spec_network.specs.Ledger.{Ledger, places_or, users_or, take_all_gone}
-use Rattle.mq_spec_network.specs.Story.{Mem}
-use Rattle.mq_law_rows.specs.World.{ident_of}
-use Rattle.mq_law_rows.proofs.Lists.{ident_yes}
+use Rattle.mq_law_seen.specs.from_spec_network.Ledger as ledgers
+use Rattle.mq_law_seen.specs.from_spec_network.Ledger.{Ledger, places_or, users_or, take_all_gone}
+use Rattle.mq_law_seen.specs.from_spec_network.Story.{Mem}
+use Rattle.mq_law_seen.specs.from_law_rows.World.{ident_of}
+use Rattle.mq_law_seen.proofs.from_law_rows.Lists.{ident_yes}
 use Rattle.mq_law_manager.specs.Facts.{Differ}
 use Rattle.mq_law_manager.proofs.Removals.{mem_filter, differ_filter}
 use Rattle.mq_law_events.specs.Tied.{IsTold, IsFresh, Follow}

@@ -12,9 +12,9 @@ use Rattle.mq_calls.specs.declared.state.Item.TheVariants.{Put, Take}
 use Rattle.mq_calls.specs.State.{Plain, LogState}
 use Rattle.mq_calls.specs.Reads.{connection_at}
 use Rattle.mq_calls.specs.Images.{begun, lasting, raised}
-use Rattle.mq_spec_network.specs.Ledger.{unit_of}
-use Rattle.mq_spec_network.specs.Story.{Mem}
-use Rattle.mq_law_rows.proofs.Lists.{name_self, ident_self}
+use Rattle.mq_law_seen.specs.from_spec_network.Ledger.{unit_of}
+use Rattle.mq_law_seen.specs.from_spec_network.Story.{Mem}
+use Rattle.mq_law_seen.proofs.from_law_rows.Lists.{name_self, same_self}
 use Rattle.mq_law_manager.specs.View.{Taken, takes_in, items_of}
 use Rattle.mq_law_manager.specs.Facts.{IsSound}
 use Rattle.mq_law_events.specs.Tied.{IsFresh}
@@ -29,7 +29,7 @@ takes_any [] d x lasting n = absurd n
 takes_any (Put q message ∷ items) d x lasting n = takes_any items d x lasting n
 takes_any (Take q i l ∷ items) d x lasting (inl e) =
     (λ z. (bytes_eq d (ap (λ (t : Taken). t.queue) (sym e) z) && same_ident x.message.ident (ap (λ (t : Taken). t.ident) (sym e) z)) || any_taken items d x)
-    ∙ (λ z. (name_self d z && ident_self x.message.ident z) || any_taken items d x)
+    ∙ (λ z. (name_self d z && same_self x.message.ident z) || any_taken items d x)
 takes_any (Take q i l ∷ items) d x lasting (inr n) = ap (λ t. (bytes_eq d q && same_ident x.message.ident i) || t) (takes_any items d x lasting n) ∙ or_true (bytes_eq d q && same_ident x.message.ident i)
 
 same_items : (o : Option Connection) → items_of o ≡ unit_of o

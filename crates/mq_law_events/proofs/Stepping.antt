@@ -3,15 +3,13 @@ use Rattle.std.proofs.Common.{ℕ, ◌≡◌, Bool, false, List, refl, ap, sym, 
 use Rattle.std.specs.Prelude.{Option, Some, None, ◌==◌, if◌then◌else◌, slice_get, is_some}
 use Rattle.mq_message.specs.declared.message.Ident.{Ident}
 use Rattle.mq_queue.specs.declared.row.Row.{Row}
-use Rattle.mq_history.specs.declared.scenario.CableLine.{CableLine}
-use Rattle.mq_history.specs.declared.scenario.Scenario.{Scenario}
+use Rattle.mq_law_seen.specs.from_history.{CableLine, ManagerPlaces, Scenario}
 use Rattle.mq_calls.specs.State.{Plain}
 use Rattle.mq_calls.specs.Reads.{stored, sender_in, receiver_in, connection_at, in_doubt_of, batch_of}
-use Rattle.mq_history.specs.declared.story.ManagerPlaces.{ManagerPlaces}
-use Rattle.mq_spec_network.specs.Ledger.{Ledger, users_or, users_at, places_or, rows_in, ledger_rows, unit_of}
-use Rattle.mq_spec_network.specs.Standing.{last_unit, last_unit_at, last_unit_of, cable_from}
-use Rattle.mq_law_rows.specs.World.{World, Book, Ghost, Inv, items_told}
-use Rattle.mq_law_rows.proofs.Lists.{bool_case, eqb_yes}
+use Rattle.mq_law_seen.specs.from_spec_network.Ledger.{Ledger, users_or, users_at, places_or, rows_in, ledger_rows, unit_of}
+use Rattle.mq_law_seen.specs.from_spec_network.Standing.{last_unit, last_unit_at, last_unit_of, cable_from}
+use Rattle.mq_law_seen.specs.from_law_rows.World.{World, Book, Ghost, Inv, items_told}
+use Rattle.mq_law_seen.proofs.from_law_rows.Lists.{bool_case, eqb_yes}
 use Rattle.mq_law_seen.specs.Seen.{rows_of, units_of, held_unit, holds_of, doubt_of, last_of, world_of, book_of}
 use Rattle.mq_law_events.specs.Local.{local, page, with_owner, Moved, Leads, side_of, sheet_of}
 use Rattle.mq_law_events.specs.Tied.{IsTold, IsSame, IsElse, IsNext, Follow}

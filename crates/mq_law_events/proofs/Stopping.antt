@@ -15,16 +15,16 @@ use Rattle.mq_calls.specs.Changes.{apply, apply_all, release_if}
 use Rattle.mq_calls.specs.Images.{begun, raised, rests_by, lasting, lasting_row, lasting_rows, numbered, uncounted_message}
 use Rattle.mq_calls.specs.Steps.{freeze}
 use Rattle.mq_spec_manager.specs.Stops.{at_rest, release_batch}
-use Rattle.mq_spec_network.specs.Ledger as ledgers
-use Rattle.mq_spec_network.specs.Ledger.{Ledger, Users, ledger_rows, leave_queues, unit_of}
-use Rattle.mq_history.specs.declared.story.ManagerPlaces.{ManagerPlaces}
-use Rattle.mq_law_rows.specs.World.{Inv}
-use Rattle.mq_law_rows.specs.Kinds.{with_rows}
-use Rattle.mq_law_rows.proofs.Lists.{bool_case, eqb_self}
+use Rattle.mq_law_seen.specs.from_spec_network.Ledger as ledgers
+use Rattle.mq_law_seen.specs.from_spec_network.Ledger.{Ledger, Users, ledger_rows, leave_queues, unit_of}
+use Rattle.mq_law_seen.specs.from_history.{ManagerPlaces}
+use Rattle.mq_law_seen.specs.from_law_rows.World.{Inv}
+use Rattle.mq_law_seen.specs.from_law_rows.Kinds.{with_rows}
+use Rattle.mq_law_seen.proofs.from_law_rows.Lists.{bool_case, eqb_self}
 use Rattle.mq_law_seen.proofs.Bridges.{loses_rows}
 use Rattle.mq_law_manager.proofs.Numbered.{rows_begun}
 use Rattle.mq_law_manager.proofs.Restarting.{rows_lasting}
-use Rattle.mq_law_rows.proofs.Telling.{IsAlike, retells, untells}
+use Rattle.mq_law_seen.proofs.from_law_rows.Telling.{IsAlike, retells, untells}
 use Rattle.mq_law_events.specs.Local.{Side, Sheet, local, page, Leads, side_of, sheet_of}
 use Rattle.mq_law_events.specs.Tied.{connections_told, IsTold, IsFresh, IsElse, Follow}
 use Rattle.mq_law_events.proofs.Locals.{lands, others_told, retag_both, lasting_of, loses_leads, behind}

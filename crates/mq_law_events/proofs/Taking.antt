@@ -13,20 +13,20 @@ use Rattle.mq_calls.specs.declared.deltas.Why.{Why}
 use Rattle.mq_calls.specs.declared.state.Connection.{Connection}
 use Rattle.mq_calls.specs.declared.state.Item.{Item}
 use Rattle.mq_calls.specs.declared.state.Item.TheVariants.{Take}
-use Rattle.mq_history.specs.declared.story.ManagerPlaces.{ManagerPlaces}
+use Rattle.mq_law_seen.specs.from_history.{ManagerPlaces}
 use Rattle.mq_calls.specs.State.{Plain, Given}
 use Rattle.mq_calls.specs.State.Change.{Leave, Hold, Pend}
 use Rattle.mq_calls.specs.State.Which.{Among}
 use Rattle.mq_calls.specs.Reads.{stored, connection_at}
 use Rattle.mq_calls.specs.Changes.{apply, apply_all, retag_if, selects}
 use Rattle.mq_spec_manager.specs.Get.{idents_of}
-use Rattle.mq_spec_network.specs.Ledger as ledgers
-use Rattle.mq_spec_network.specs.Ledger.{Ledger, places_at, is_placed_at, take, take_if, take_got, take_all_gone, is_taken, leave_queues, ledger_rows, unit_of}
-use Rattle.mq_spec_network.specs.Story.{Mem}
-use Rattle.mq_law_rows.specs.World.{ident_of}
-use Rattle.mq_law_rows.specs.Kinds.{among}
-use Rattle.mq_law_rows.proofs.Lists.{bool_case, is_false, true_false, eqb_self, ident_yes, name_yes, keep_same, keep_all, mem_kept, and_right}
-use Rattle.mq_law_rows.proofs.Receiving.{mem_any}
+use Rattle.mq_law_seen.specs.from_spec_network.Ledger as ledgers
+use Rattle.mq_law_seen.specs.from_spec_network.Ledger.{Ledger, places_at, is_placed_at, take, take_if, take_got, take_all_gone, is_taken, leave_queues, ledger_rows, unit_of}
+use Rattle.mq_law_seen.specs.from_spec_network.Story.{Mem}
+use Rattle.mq_law_seen.specs.from_law_rows.World.{ident_of}
+use Rattle.mq_law_seen.specs.from_law_rows.Kinds.{among}
+use Rattle.mq_law_seen.proofs.from_law_rows.Lists.{bool_case, is_false, true_false, eqb_self, ident_yes, name_yes, keep_same, keep_all, mem_kept, and_right}
+use Rattle.mq_law_seen.proofs.from_law_rows.Receiving.{mem_any}
 use Rattle.mq_law_seen.proofs.Bridges.{takes_from}
 use Rattle.mq_law_seen.proofs.Receipts.{rows_placed}
 use Rattle.mq_law_manager.specs.Facts.{Differ}

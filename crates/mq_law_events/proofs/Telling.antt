@@ -5,18 +5,18 @@ use Rattle.mq_calls.specs.declared.state.Connection.{Connection}
 use Rattle.mq_calls.specs.declared.state.Handle.{Handle}
 use Rattle.mq_calls.specs.declared.state.Item.{Item}
 use Rattle.mq_calls.specs.declared.state.Item.TheVariants.{Put, Take}
-use Rattle.mq_history.specs.declared.story.ManagerPlaces.{ManagerPlaces}
+use Rattle.mq_law_seen.specs.from_history.{ManagerPlaces}
 use Rattle.std.specs.Str.{bytes_eq}
 use Rattle.mq_message.specs.declared.message.Message.{Message}
 use Rattle.mq_queue.specs.declared.row.Row.{Row}
 use Rattle.mq_queue.specs.Rows.{keep}
 use Rattle.mq_calls.specs.declared.image.Shelf.{Shelf}
-use Rattle.mq_spec_network.specs.Story.{Mem}
+use Rattle.mq_law_seen.specs.from_spec_network.Story.{Mem}
 use Rattle.mq_calls.specs.Reads.{connection_at, handle_at}
 use Rattle.mq_calls.specs.Changes.{change_connection}
-use Rattle.mq_spec_network.specs.Ledger.{Ledger, Users, change_at, with_places, with_users, unit_of, put_in, put_on, leave_queues}
-use Rattle.mq_law_rows.specs.World.{items_told}
-use Rattle.mq_law_rows.proofs.Lists.{bool_case, is_false, true_false, eqb_self, eqb_yes, name_yes, name_self, map_mem}
+use Rattle.mq_law_seen.specs.from_spec_network.Ledger.{Ledger, Users, change_at, with_places, with_users, unit_of, put_in, put_on, leave_queues}
+use Rattle.mq_law_seen.specs.from_law_rows.World.{items_told}
+use Rattle.mq_law_seen.proofs.from_law_rows.Lists.{bool_case, is_false, true_false, eqb_self, eqb_yes, name_yes, name_self, map_mem}
 use Rattle.mq_law_seen.proofs.Bridges.{mapped_if, get_changed}
 use Rattle.mq_law_manager.proofs.SeenLaws.{mapped_one, connection_changed}
 use Rattle.mq_law_events.specs.Tied.{handle_told, connection_told, connections_told, AreShelved, IsElse}

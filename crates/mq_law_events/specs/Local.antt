@@ -5,8 +5,8 @@ use Rattle.mq_queue.specs.declared.row.Row.{Row}
 use Rattle.mq_calls.specs.declared.state.Item.{Item}
 use Rattle.mq_calls.specs.State.{Plain}
 use Rattle.mq_calls.specs.Reads.{stored, connection_at}
-use Rattle.mq_spec_network.specs.Ledger.{Ledger, ledger_rows, unit_of}
-use Rattle.mq_law_rows.specs.World.{World, Book, Ghost, Owner, Inv, items_told}
+use Rattle.mq_law_seen.specs.from_spec_network.Ledger.{Ledger, ledger_rows, unit_of}
+use Rattle.mq_law_seen.specs.from_law_rows.World.{World, Book, Ghost, Owner, Inv, items_told}
 
 -- what the laws see of a manager that its own events change: rows by queue, units by connection, and which idents were given
 pub record Side : Type 0 where

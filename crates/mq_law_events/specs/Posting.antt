@@ -15,10 +15,10 @@ use Rattle.mq_calls.specs.declared.answers.GetAnswer.TheVariants.{NotYet, Done}
 use Rattle.mq_calls.specs.declared.answers.Hconn.{Hconn}
 use Rattle.mq_calls.specs.declared.state.Item.{Item}
 use Rattle.mq_calls.specs.declared.state.Item.TheVariants.{Put, Take}
-use Rattle.mq_history.specs.declared.calls.Reply.TheVariants as replies
+use Rattle.mq_law_seen.specs.from_history.ReplyVariants as replies
 use Rattle.mq_calls.specs.Reads.{stored, connection_at}
-use Rattle.mq_spec_network.specs.Ledger.{Ledger, Users, take_all_gone, lose, got_ident, get_by, unit_of}
-use Rattle.mq_spec_network.specs.Story.{Mem}
+use Rattle.mq_law_seen.specs.from_spec_network.Ledger.{Ledger, Users, take_all_gone, lose, got_ident, get_by, unit_of}
+use Rattle.mq_law_seen.specs.from_spec_network.Story.{Mem}
 use Rattle.mq_law_events.specs.Tied.{Follow}
 
 -- The call runs: the manager does its parts, and the ledger posts it by its reply and its delta.

@@ -4,7 +4,7 @@ use Rattle.mq_message.specs.declared.message.Ident.{Ident}
 use Rattle.mq_queue.specs.declared.row.Row.{Row}
 use Rattle.mq_queue.specs.Rows.{retag, is_by_unit}
 use Rattle.mq_calls.specs.Changes.{release_if}
-use Rattle.mq_law_rows.specs.World.{World, Book, Owner, Unborn, At, HeldBy, InBatch, Forced, InUnit, InHand, Gone}
+use Rattle.mq_law_seen.specs.from_law_rows.World.{World, Book, Owner, Unborn, At, HeldBy, InBatch, Forced, InUnit, InHand, Gone}
 
 -- some unit of the manager holds the row
 abbrev pub has_units : ℕ → ℕ → Row → Bool

@@ -6,11 +6,11 @@ use Rattle.mq_base.specs.Members.{Chain}
 use Rattle.mq_calls.specs.declared.image.Shelf.{Shelf}
 use Rattle.mq_calls.specs.declared.state.Connection.{Connection}
 use Rattle.mq_calls.specs.declared.state.Handle.{Handle}
-use Rattle.mq_history.specs.declared.story.ManagerPlaces.{ManagerPlaces}
+use Rattle.mq_law_seen.specs.from_history.{ManagerPlaces}
 use Rattle.mq_calls.specs.State.{Plain}
 use Rattle.mq_spec_manager.specs.Standing.{is_unborn}
-use Rattle.mq_spec_network.specs.Ledger.{Ledger, Users}
-use Rattle.mq_law_rows.specs.World.{items_told}
+use Rattle.mq_law_seen.specs.from_spec_network.Ledger.{Ledger, Users}
+use Rattle.mq_law_seen.specs.from_law_rows.World.{items_told}
 use Rattle.mq_law_events.specs.Local.{Leads, side_of, sheet_of}
 
 -- a handle without its cursor, and as if nothing were stale; a connection as the ledger tells it

@@ -34,7 +34,7 @@ use Rattle.mq_spec_network.specs.Ledger as ledgers
 use Rattle.mq_spec_network.specs.Ledger.{Ledger, at_moment, post_call, take_all_gone, take_gone}
 use Rattle.mq_spec_network.specs.Order.{unit_received}
 use Rattle.mq_spec_network.specs.Story.{Mem}
-use Rattle.mq_law_rows.proofs.Lists.{bool_case}
+use Rattle.mq_law_events.proofs.from_law_rows.Lists.{bool_case}
 use Rattle.mq_law_manager.specs.View.{puts_in, items_of}
 use Rattle.mq_law_manager.specs.Facts.{has_queue, IsSound}
 use Rattle.mq_law_manager.specs.Kept.{StepKeeps}

@@ -28,9 +28,9 @@ use Rattle.mq_spec_network.specs.Ledger as ledgers
 use Rattle.mq_spec_network.specs.Ledger.{Ledger, at_moment, change_at, is_placed_at, is_taken, leave_queues, places_at, places_or, post_call, take, take_all_gone, take_if, users_at}
 use Rattle.mq_spec_network.specs.Order.{unit_received}
 use Rattle.mq_spec_network.specs.Story.{Mem}
-use Rattle.mq_law_rows.specs.World.{ident_of}
-use Rattle.mq_law_rows.proofs.Lists.{bool_case, is_false, true_false, ident_yes, ident_self, name_self, keep_same, mem_keep, mem_kept}
-use Rattle.mq_law_seen.proofs.Bridges.{name_back}
+use Rattle.mq_law_events.specs.from_law_rows.World.{ident_of}
+use Rattle.mq_law_events.proofs.from_law_rows.Lists.{bool_case, is_false, true_false, ident_yes, same_self, name_self, keep_same, mem_keep, mem_kept}
+use Rattle.mq_law_events.proofs.from_law_seen.Bridges.{name_back}
 use Rattle.mq_law_manager.specs.Facts.{AreNamed, Differ, IsSound}
 use Rattle.mq_law_manager.proofs.Lists.{one_row}
 use Rattle.mq_law_manager.proofs.QueueNames.{mapped_named}
@@ -75,7 +75,7 @@ stands_row i p named e =
 row_stands : (d : List ℕ) (qs : List Queue) (x : Row) → Mem x (queue_in d qs).rows → list_any (λ (q : Queue). list_any (has_ident x.message.ident) q.rows) qs ≡ true
 row_stands d [] x n = absurd n
 row_stands d (q ∷ qs) x n = bool_case (bytes_eq d q.name) (λ t. Mem x (if t then q else queue_in d qs).rows → (list_any (has_ident x.message.ident) q.rows || list_any (λ (q : Queue). list_any (has_ident x.message.ident) q.rows) qs) ≡ true)
-    (λ z k. ap (λ b. b || list_any (λ (q : Queue). list_any (has_ident x.message.ident) q.rows) qs) (any_of (has_ident x.message.ident) q.rows x k (ident_self x.message.ident)))
+    (λ z k. ap (λ b. b || list_any (λ (q : Queue). list_any (has_ident x.message.ident) q.rows) qs) (any_of (has_ident x.message.ident) q.rows x k (same_self x.message.ident)))
     (λ z k. ap (λ b. list_any (has_ident x.message.ident) q.rows || b) (row_stands d qs x k) ∙ or_true (list_any (has_ident x.message.ident) q.rows)) n
   where
     or_true : (t : Bool) → (t || true) ≡ true
@@ -126,7 +126,7 @@ mapped_same f g (q ∷ qs) same = λ i. same q (inl refl) i ∷ mapped_same f g 
 same_left : (p : Plain) (q : List ℕ) (xs : List Row) → apply (Leave (Among q (idents_of (still p xs)))) p ≡ apply (Leave (Among q (idents_of xs))) p
 same_left p q xs = ap (λ (qs : List Queue). record p { queues = qs }) (mapped_same (kept_in (Among q (idents_of (still p xs)))) (kept_in (Among q (idents_of xs))) p.queues
     (λ d n. ap (λ (rows : List Row). record d { rows = rows }) (keep_same _ _ d.rows (λ y k.
-    ap (λ b. not (bytes_eq d.name q && b)) (sym (among_still y.message.ident p xs (any_of (λ (q : Queue). list_any (has_ident y.message.ident) q.rows) p.queues d n (any_of (has_ident y.message.ident) d.rows y k (ident_self y.message.ident)))))))))
+    ap (λ b. not (bytes_eq d.name q && b)) (sym (among_still y.message.ident p xs (any_of (λ (q : Queue). list_any (has_ident y.message.ident) q.rows) p.queues d n (any_of (has_ident y.message.ident) d.rows y k (same_self y.message.ident)))))))))
 
 -- What the ledger took it does not take again
 
@@ -153,7 +153,7 @@ none_row i [] = refl
 none_row i (row ∷ rows) = bool_case (same_ident row.message.ident i)
     (λ t. same_ident row.message.ident i ≡ t → list_any (same_ident i) (row_idents (if not t then row ∷ keep (λ (row : Row). not (has_ident i row)) rows else keep (λ (row : Row). not (has_ident i row)) rows)) ≡ false)
     (λ z w. none_row i rows)
-    (λ z w. ap (λ b. b || list_any (same_ident i) (row_idents (keep (λ (row : Row). not (has_ident i row)) rows))) (is_false (same_ident i row.message.ident) (λ k. true_false (sym (ap (λ j. same_ident j i) (sym (ident_yes i row.message.ident k)) ∙ ident_self i) ∙ w))) ∙ none_row i rows)
+    (λ z w. ap (λ b. b || list_any (same_ident i) (row_idents (keep (λ (row : Row). not (has_ident i row)) rows))) (is_false (same_ident i row.message.ident) (λ k. true_false (sym (ap (λ j. same_ident j i) (sym (ident_yes i row.message.ident k)) ∙ same_self i) ∙ w))) ∙ none_row i rows)
     refl
 
 none_shelf : (i : Ident) (qs : List Shelf) → list_any (same_ident i) (shelf_idents (leave_queues (λ (row : Row). not (has_ident i row)) qs)) ≡ false

@@ -6,3 +6,5 @@ pub mod Getting
 pub mod Ending
 pub mod Obeying
 pub mod Shifting
+pub mod from_law_events
+pub mod from_law_log

@@ -27,7 +27,7 @@ use Rattle.mq_spec_manager.specs.Put.{mqput, mqput1, put_up, put_handle, put_rou
 use Rattle.mq_spec_manager.specs.Stops.{redone, is_added}
 use Rattle.mq_spec_network.specs.Ledger as ledgers
 use Rattle.mq_spec_network.specs.Ledger.{Ledger, at_moment, post_call, places_or}
-use Rattle.mq_law_rows.proofs.Lists.{ident_self}
+use Rattle.mq_law_events.proofs.from_law_rows.Lists.{same_self}
 use Rattle.mq_law_manager.specs.Facts.{IsSound}
 use Rattle.mq_law_manager.specs.Kept.{StepKeeps}
 use Rattle.mq_law_manager.proofs.Stocks.{put_defined}
@@ -50,7 +50,7 @@ or_true : (t b : Bool) → t ≡ true → (t || b) ≡ true
 or_true t b e = ap (λ x. x || b) e
 
 record_adds : (t : Bool) (queue : List ℕ) (m : Message) → adds m.ident (if t then Some (records.Unit (record { queue = queue; message = m } ∷ []) []) else None) ≡ true
-record_adds true queue m = or_true _ false (ident_self m.ident)
+record_adds true queue m = or_true _ false (same_self m.ident)
 record_adds false queue m = refl
 
 -- what a put posts, where it placed this

@@ -22,7 +22,7 @@ use Rattle.mq_spec_manager.specs.Moves.{bare_if, move_part, moved_forced, moved_
 use Rattle.mq_spec_network.specs.Ledger as ledgers
 use Rattle.mq_spec_network.specs.Ledger.{Ledger, at_moment, places_at, row_in}
 use Rattle.mq_spec_network.specs.Story.{Mem}
-use Rattle.mq_law_rows.proofs.Lists.{bool_case}
+use Rattle.mq_law_events.proofs.from_law_rows.Lists.{bool_case}
 use Rattle.mq_law_manager.specs.Facts.{IsSound}
 use Rattle.mq_law_manager.proofs.Resolving.{route_stands, end_there}
 use Rattle.mq_law_manager.proofs.Stocks.{bare_kind}

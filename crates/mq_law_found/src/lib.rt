@@ -26,7 +26,7 @@ ghost use Rattle.mq_spec_manager.specs.Units.{mqcmit, mqdisc};
 ghost use Rattle.mq_spec_manager.specs.Landing.{landing};
 ghost use Rattle.mq_spec_manager.specs.Moves.{bare_if, move_part};
 ghost use Rattle.mq_spec_network.specs.Story.{Mem};
-ghost use Rattle.mq_law_rows.specs.World.{ident_of};
+ghost use Rattle.mq_law_events.specs.from_law_rows.World.{ident_of};
 ghost use Rattle.mq_law_manager.specs.Facts.{Differ, IsSound};
 ghost use Rattle.mq_law_manager.specs.Kept.{StepKeeps};
 ghost use Rattle.mq_law_found.specs.Finds.{PartNotes, StepNotes};

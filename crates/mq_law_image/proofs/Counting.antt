@@ -27,14 +27,15 @@ use Rattle.mq_calls.specs.declared.image.Image.{Image}
 use Rattle.mq_calls.specs.declared.image.Shelf.{Shelf}
 use Rattle.mq_calls.specs.Steps.{Part, Step, after, do_part, do_all, logged, stands_in, freeze, stopped_at, note_of, volatile_gone}
 use Rattle.mq_calls.specs.Steps.Step.{Refuse, Do}
-use Rattle.mq_spec_manager.specs.Stops.{advance_clock, cut, first_start, stop, stop_at, stop_changes, at_rest, release_batch, redone, redone_if, restarted, next_started, started_need, failed}
-use Rattle.mq_spec_log.specs.Applies.{is_in_bounds}
-use Rattle.mq_spec_log.specs.Applies.Start.{Later}
-use Rattle.mq_law_manager.specs.Facts.{Mem, AreNamed, IsFrozen, IsSound}
-use Rattle.mq_law_manager.proofs.Lists.{bool_case}
-use Rattle.mq_law_manager.proofs.Named.{name_self, name_turned, queue_set, queue_mapped, queue_dropped}
-use Rattle.mq_law_manager.proofs.Untouched.{changes_untouched}
+use Rattle.mq_law_log.specs.from_spec_manager.Stops.{advance_clock, cut, first_start, stop, stop_at, stop_changes, at_rest, release_batch, redone, redone_if, restarted, next_started, started_need, failed}
+use Rattle.mq_law_log.specs.from_spec_log.Applies.{is_in_bounds}
+use Rattle.mq_law_log.specs.from_spec_log.Applies.Start.{Later}
+use Rattle.mq_law_log.specs.from_law_manager.Facts.{Mem, AreNamed, IsFrozen, IsSound}
+use Rattle.mq_law_log.proofs.from_law_manager.Lists.{bool_case}
+use Rattle.mq_law_log.proofs.from_law_manager.Named.{queue_set, queue_mapped, queue_dropped}
+use Rattle.mq_law_log.proofs.from_law_manager.Untouched.{changes_untouched}
 use Rattle.mq_law_log.proofs.Bridge.{all_of}
+pub use Rattle.mq_law_log.proofs.Bridge.{entry_found}
 use Rattle.mq_law_image.specs.Bounds.{IsBounded, all_growth, need_of, part_growth, parts_growth, step_growth, noted_growth, restart_growth, HaveArrived}
 use Rattle.mq_law_image.proofs.Growing.{Rises, bounded_by, rise_on, all_rise, still_rises, mapped_rise, handles_more, le_self, le_refl}
 
@@ -362,12 +363,6 @@ cut_bounded most k p h = record { incarnation = h.incarnation; idents = h.idents
 pub clock_bounded : (most by : ℕ) (p : Plain) → IsBounded most p → IsBounded most (advance_clock by p)
 clock_bounded most by p h = record { incarnation = h.incarnation; idents = h.idents; connections = h.connections; handles = h.handles; arrivals = h.arrivals; due = h.due; log = h.log }
 
--- a queue of the list is the one of its name
-entry_found : (qs : List Queue) → AreNamed qs → (q : Queue) → Mem q qs → queue_in q.name qs ≡ q
-entry_found [] n q m = absurd m
-entry_found (x ∷ xs) n q (inl e) = ap (λ (y : Queue). if bytes_eq q.name y.name then y else queue_in q.name xs) (sym e) ∙ ap (λ (b : Bool). if b then q else queue_in q.name xs) (name_self q.name)
-entry_found (x ∷ xs) n q (inr m) = ap (λ (b : Bool). if b then x else queue_in q.name xs) (name_turned q.name x.name ∙ n.0 q m) ∙ entry_found xs n.1 q m
-
 pub at_most : (most : ℕ) (p : Plain) → AreNamed p.queues → IsBounded most p → AreAtMost most p
 at_most most p named b = record {
   incarnation = b.incarnation;
@@ -383,7 +378,7 @@ at_most most p named b = record {
 
 -- a manager begins with as many arrivals as it has rows
 
-first_arrivals : (most : ℕ) (name : List ℕ) (ss : List Shelf) → ((s : Shelf) → Mem s ss → length s.rows ≤ most) → (queue_in name (map queue_on ss)).arrivals + 0 ≤ most
+pub first_arrivals : (most : ℕ) (name : List ℕ) (ss : List Shelf) → ((s : Shelf) → Mem s ss → length s.rows ≤ most) → (queue_in name (map queue_on ss)).arrivals + 0 ≤ most
 first_arrivals most name [] h = none_left most
 first_arrivals most name (s ∷ ss) h = bool_case (bytes_eq name s.name) (λ b. (if b then queue_on s else queue_in name (map queue_on ss)).arrivals + 0 ≤ most) (λ e. on (length s.rows) (h s (inl refl))) (λ e. first_arrivals most name ss (λ t m. h t (inr m)))
   where

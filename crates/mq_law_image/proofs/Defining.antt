@@ -19,14 +19,14 @@ use Rattle.mq_calls.specs.declared.image.Shelf.{Shelf}
 use Rattle.mq_calls.specs.Recovery.{routes}
 use Rattle.mq_calls.specs.declared.records.LogRecord.TheVariants as records
 use Rattle.mq_queue.specs.Lanes.{lane_at}
-use Rattle.mq_spec_log.specs.Applies.{agrees, same_form, can_set, can_delete, can_change, has_rows_on}
-use Rattle.mq_spec_log.specs.Records.{doing, shelf_if}
-use Rattle.mq_spec_log.specs.Shelves.{set_shelf}
-use Rattle.mq_law_manager.specs.Facts.{Mem, Differ, ident_of, AreLaned, AreOnce, is_local}
-use Rattle.mq_law_manager.proofs.Lists.{bool_case}
-use Rattle.mq_law_manager.proofs.Named.{name_is, name_turned}
-use Rattle.mq_law_manager.proofs.Objects.{set_found, delete_found, once_set, once_delete}
-use Rattle.mq_law_manager.proofs.Routes.{filter_mem}
+use Rattle.mq_law_log.specs.from_spec_log.Applies.{agrees, same_form, can_set, can_delete, can_change, has_rows_on}
+use Rattle.mq_law_log.specs.from_spec_log.Records.{doing, shelf_if}
+use Rattle.mq_law_log.specs.from_spec_log.Shelves.{set_shelf}
+use Rattle.mq_law_log.specs.from_law_manager.Facts.{Mem, Differ, ident_of, AreLaned, AreOnce, is_local}
+use Rattle.mq_law_log.proofs.from_law_manager.Lists.{bool_case}
+use Rattle.mq_law_log.proofs.from_law_manager.Named.{name_is, name_turned}
+use Rattle.mq_law_log.proofs.from_law_manager.Objects.{set_found, delete_found, once_set, once_delete}
+use Rattle.mq_law_log.proofs.from_law_manager.Routes.{filter_mem}
 use Rattle.mq_law_image.specs.SoFar.{Sight, sight, IsRowOf, AreShelved, IsSoFar}
 use Rattle.mq_law_image.proofs.Members.{both, set_shelf_mem}
 use Rattle.mq_law_image.proofs.Rowing.{seen_shelved}

@@ -30,9 +30,9 @@ use Rattle.mq_sc_parse.specs.Splitting.{items_of}
 use Rattle.mq_sc_grammar.specs.Spelling.{IsNamed}
 use Rattle.mq_sc_grammar.specs.Commands.{IsKind, IsCommand}
 use Rattle.mq_sc_grammar.proofs.Readings.{command_read}
-use Rattle.mq_spec_log.specs.Texts.{meant_in, meant_of, change_in}
-use Rattle.mq_record.specs.declared.record.Operation.TheVariants.{Delete as Deletes}
-use Rattle.mq_law_manager.proofs.Lists.{bool_case}
+use Rattle.mq_law_log.specs.from_spec_log.Texts.{meant_in, meant_of, change_in}
+use Rattle.mq_law_log.specs.from_record.OperationVariants.{Delete as Deletes}
+use Rattle.mq_law_log.proofs.from_law_manager.Lists.{bool_case}
 use Rattle.mq_law_image.specs.Laid.Bit.{Word, Quote, Open, Close, Gap}
 use Rattle.mq_law_image.specs.Laid.{Bit, text_of, kinds_in, AreLaid, IsSubject, is_no_end}
 use Rattle.mq_law_image.proofs.Members.{both}

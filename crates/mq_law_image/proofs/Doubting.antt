@@ -13,11 +13,11 @@ use Rattle.mq_sync.specs.declared.data.InDoubt.{InDoubt}
 use Rattle.mq_calls.specs.State.Which.{Among}
 use Rattle.mq_calls.specs.Changes.{selects, retag_if, less_ident}
 use Rattle.mq_calls.specs.Recovery.{IsListed, listed}
-use Rattle.mq_spec_log.specs.Applies.{is_held_among}
-use Rattle.mq_spec_log.specs.Shelves.{freed_row}
-use Rattle.mq_law_manager.proofs.Lists.{bool_case}
-use Rattle.mq_law_manager.proofs.Named.{name_is, name_self, name_yes, name_turned}
-use Rattle.mq_law_manager.proofs.Batches.{by_batch}
+use Rattle.mq_law_log.specs.from_spec_log.Applies.{is_held_among}
+use Rattle.mq_law_log.specs.from_spec_log.Shelves.{freed_row}
+use Rattle.mq_law_log.proofs.from_law_manager.Lists.{bool_case}
+use Rattle.mq_law_log.proofs.from_law_manager.Named.{name_is, name_self, name_yes, name_turned}
+use Rattle.mq_law_log.proofs.from_law_manager.Batches.{by_batch}
 use Rattle.mq_law_image.specs.SoFar.{Sight, IsHeldIn, IsRowOf}
 use Rattle.mq_law_image.proofs.Members.{both}
 use Rattle.mq_law_image.proofs.Siding.{doubting, less_listed, less_lists}

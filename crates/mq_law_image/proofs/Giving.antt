@@ -12,7 +12,7 @@ use Rattle.mq_objects.specs.declared.change.ObjectChange.TheVariants as changes
 use Rattle.mq_objects.specs.Attributes.{attributes, manager_attributes}
 use Rattle.mq_objects.specs.Defaults.{new_manager}
 use Rattle.mq_objects.specs.Settings.{set_all_manager}
-use Rattle.mq_sc_apply.specs.Planned.{defined_object}
+use Rattle.mq_law_log.specs.from_sc_apply.Planned.{defined_object}
 use Rattle.mq_sc_lex.specs.declared.token.Line.{Line}
 use Rattle.mq_sc_lex.specs.declared.token.Token.{Token}
 use Rattle.mq_sc_lex.specs.declared.token.TokenKind.{TokenKind}
@@ -38,9 +38,9 @@ use Rattle.mq_sc_grammar.specs.Spelling.{Clause, AreClauses, kinds_of, IsNamed}
 use Rattle.mq_sc_grammar.specs.Commands.{Says, IsKind, AreKnown, AreSingle, AreGiven, IsOnto, HasNeeded, IsCommand, keys_of}
 use Rattle.mq_sc_grammar.proofs.Readings.{command_read}
 use Rattle.mq_sc_grammar.proofs.Splits.{Spell, Valued, items_read, value_read, three_passed}
-use Rattle.mq_spec_log.specs.Texts.{is_plain, gives_all, defined_if, altered_if, meant_in, meant_of, change_in}
-use Rattle.mq_record.specs.declared.record.Operation.TheVariants.{Set as Sets}
-use Rattle.mq_law_manager.specs.Facts.{Mem}
+use Rattle.mq_law_log.specs.from_spec_log.Texts.{is_plain, gives_all, defined_if, altered_if, meant_in, meant_of, change_in}
+use Rattle.mq_law_log.specs.from_record.OperationVariants.{Set as Sets}
+use Rattle.mq_law_log.specs.from_law_manager.Facts.{Mem}
 use Rattle.mq_law_image.specs.Laid.Bit.{Word, Quote, Open, Close, Gap}
 use Rattle.mq_law_image.specs.Laid.{Bit, bit_text, IsValueWell, text_of, kinds_in, AreLaid, IsWell, is_no_end, Written, value_bits, clause_bits, all_bits, clauses_of, settings_of, Ends, AreWritten, CanDefine, alter_bits, define_bits}
 use Rattle.mq_law_image.proofs.Laying.{Lined, laid_read, unquoted}

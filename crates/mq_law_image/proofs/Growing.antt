@@ -14,8 +14,8 @@ use Rattle.mq_calls.specs.Condition.{condition}
 use Rattle.mq_calls.specs.Reads.{stored, queue_in, puts_to, is_put_to, reserved, unit_need, with_head, item_bytes}
 use Rattle.mq_calls.specs.Changes.{apply, apply_all, set_queue, placed_in, lane_of, kept_in, held_in, released_in, made_due, depth_type, try_if, forgotten, change_connection, change_handle, made_stale, set_bound}
 use Rattle.mq_calls.specs.Counts.{starts_of}
-use Rattle.mq_law_manager.proofs.Lists.{bool_case}
-use Rattle.mq_law_manager.proofs.Named.{name_is, queue_set, queue_mapped, queue_dropped, found_name}
+use Rattle.mq_law_log.proofs.from_law_manager.Lists.{bool_case}
+use Rattle.mq_law_log.proofs.from_law_manager.Named.{name_is, queue_set, queue_mapped, queue_dropped, found_name}
 use Rattle.mq_law_image.specs.Bounds.{IsBounded, growth, all_growth}
 
 -- no counter of the second is more than so much above the first's

@@ -23,7 +23,7 @@ use Rattle.mq_objects.specs.declared.command.Subject.{Subject}
 use Rattle.mq_objects.specs.declared.change.ObjectChange.TheVariants as changes
 use Rattle.mq_objects.specs.Defaults.{new_object}
 use Rattle.mq_objects.specs.Settings.{keep_attribute, set_object, set_all, set_manager, set_all_manager}
-use Rattle.mq_sc_apply.specs.Planned.{is_type_setting, defined_object}
+use Rattle.mq_law_log.specs.from_sc_apply.Planned.{is_type_setting, defined_object}
 use Rattle.mq_sc_keys.specs.declared.keys.Key.{Key}
 use Rattle.mq_sc_keys.specs.declared.keys.Key.TheVariants as keys
 use Rattle.mq_sc_keys.specs.declared.verbs.Verb.{Verb}
@@ -44,10 +44,10 @@ use Rattle.mq_sc_grammar.specs.Commands.{keys_of, IsKind, AreSingle, HasNeeded}
 use Rattle.mq_sc_grammar.proofs.Words.{bytes_same}
 use Rattle.mq_sc_parse.specs.Parsing.{subject_of}
 use Rattle.mq_base.specs.Members.{AreDistinct}
-use Rattle.mq_record.specs.declared.record.Operation.TheVariants.{Set as Sets}
-use Rattle.mq_spec_log.specs.Texts.{has_effect, gives_all, change_in}
-use Rattle.mq_law_manager.specs.Facts.{Mem}
-use Rattle.mq_law_manager.proofs.Lists.{is_false, mem_append}
+use Rattle.mq_law_log.specs.from_record.OperationVariants.{Set as Sets}
+use Rattle.mq_law_log.specs.from_spec_log.Texts.{has_effect, gives_all, change_in}
+use Rattle.mq_law_log.specs.from_law_manager.Facts.{Mem}
+use Rattle.mq_law_log.proofs.from_law_manager.Lists.{is_false, mem_append}
 use Rattle.mq_law_image.specs.Laid.{text_of, Ends, Written, clause_bits, all_bits, clauses_of, settings_of, IsWritten, AreWritten, CanDefine, define_bits}
 use Rattle.mq_law_image.specs.Values.{kept_keys, IsKeptValue, AreKeptTexts}
 use Rattle.mq_law_image.proofs.Members.{both, none_any}
@@ -264,7 +264,7 @@ clear x [] ys e m n = absurd m
 clear x (y ∷ xs) ys e (inl w) n = let b = both (not (list_any (λ (z : Key). bytes_eq (key_text y) (key_text z)) ys)) (are_clear xs ys) e in cc (b.0, ap not (there y ys (subst (λ (k : Key). Mem k ys) w n)))
 clear x (y ∷ xs) ys e (inr m) n = let b = both (not (list_any (λ (z : Key). bytes_eq (key_text y) (key_text z)) ys)) (are_clear xs ys) e in clear x xs ys b.1 m n
 
-mem_mapped : {A B : Type 0} (f : A → B) (x : A) (xs : List A) → Mem x xs → Mem (f x) (map f xs)
+pub mem_mapped : {A B : Type 0} (f : A → B) (x : A) (xs : List A) → Mem x xs → Mem (f x) (map f xs)
 mem_mapped f x [] m = absurd m
 mem_mapped f x (y ∷ ys) (inl e) = inl (ap f e)
 mem_mapped f x (y ∷ ys) (inr m) = inr (mem_mapped f x ys m)

@@ -44,7 +44,7 @@ use Rattle.mq_sc_grammar.specs.Spelling.{Clause, IsValue, IsValuePart, IsClause,
 use Rattle.mq_sc_grammar.specs.Commands.{value_of, IsKind, AreKnown, AreGiven, IsDefine, IsAlter, IsAlterManager, IsCommand, Means}
 use Rattle.mq_sc_grammar.proofs.Whole.{text_found}
 use Rattle.mq_sc_grammar.proofs.Readings.{command_found}
-use Rattle.mq_law_manager.proofs.Lists.{bool_case}
+use Rattle.mq_law_log.proofs.from_law_manager.Lists.{bool_case}
 use Rattle.mq_law_image.specs.Laid.{is_no_end, IsSubject}
 use Rattle.mq_law_image.specs.Values.{kept_keys, IsSettingText, kind_of, IsCommandText}
 use Rattle.mq_law_image.proofs.Members.{both}

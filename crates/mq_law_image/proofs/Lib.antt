@@ -26,3 +26,5 @@ pub mod Recording
 pub mod Writing
 pub mod Objecting
 pub mod Readable
+pub mod from_law_log
+pub mod from_law_manager

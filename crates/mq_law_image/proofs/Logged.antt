@@ -11,7 +11,7 @@ use Rattle.mq_objects.specs.declared.command.Command.TheVariants as objects
 use Rattle.mq_objects.specs.Attributes.{attributes, manager_attributes}
 use Rattle.mq_objects.specs.Defaults.{new_manager}
 use Rattle.mq_objects.specs.Settings.{set_all_manager}
-use Rattle.mq_sc_apply.specs.Planned.{defined_object}
+use Rattle.mq_law_log.specs.from_sc_apply.Planned.{defined_object}
 use Rattle.mq_sc_lex.specs.declared.token.Line.{Line}
 use Rattle.mq_sc_lex.specs.declared.fault.LexFault.{LexFault}
 use Rattle.mq_sc_lex.specs.Commands.{commands_of}
@@ -24,13 +24,12 @@ use Rattle.mq_sc_parse.specs.Parsing.{parse_of}
 use Rattle.mq_frame.specs.declared.fault.Miss.{Miss}
 use Rattle.mq_frame.specs.Reading.{IsBytes}
 use Rattle.mq_sync.specs.declared.data.End.TheVariants as ends
-use Rattle.mq_record.specs.declared.record.Operation.{Operation}
-use Rattle.mq_record.specs.declared.record.Operation.TheVariants.{Set, Delete}
-use Rattle.mq_record.specs.declared.record.WrittenRecord.{WrittenRecord}
-use Rattle.mq_record.specs.declared.record.WrittenRecord.TheVariants as written
-use Rattle.mq_record.specs.Reading.{record_at}
-use Rattle.mq_record.specs.Records.{IsOther, IsWritten}
-use Rattle.mq_record.proofs.KindLaws.{record_got}
+use Rattle.mq_law_log.specs.from_record.{Operation, WrittenRecord}
+use Rattle.mq_law_log.specs.from_record.OperationVariants.{Set, Delete}
+use Rattle.mq_law_log.specs.from_record.WrittenRecordVariants as written
+use Rattle.mq_law_log.specs.from_record.Reading.{record_at}
+use Rattle.mq_law_log.specs.from_record.Records.{IsOther, IsWritten}
+use Rattle.mq_law_log.proofs.from_record.KindLaws.{record_got}
 use Rattle.mq_calls.specs.declared.records.Add.{Add}
 use Rattle.mq_calls.specs.declared.records.Remove.{Remove}
 use Rattle.mq_calls.specs.declared.records.LogRecord.{LogRecord}
@@ -38,12 +37,12 @@ use Rattle.mq_calls.specs.declared.records.LogRecord.TheVariants as records
 use Rattle.mq_log.specs.Bodies.{frame}
 use Rattle.mq_calls.specs.State.{Given}
 use Rattle.mq_calls.specs.declared.image.Image.{Image}
-use Rattle.mq_spec_log.specs.Texts.{is_plain, gives_all, defined_if, altered_if, meant_by, meant_in, meant_of, change_in}
-use Rattle.mq_spec_log.specs.Applies.{Start, applies}
-use Rattle.mq_spec_log.specs.Shelves.{added, added_all, removed, removed_all}
-use Rattle.mq_spec_log.specs.Records.{doing}
-use Rattle.mq_spec_log.specs.Bodies.{changing, meaning, meaning_of, record_of, behind, or_place, image_from, begins, image, empty_image}
-use Rattle.mq_law_manager.proofs.Lists.{bool_case}
+use Rattle.mq_law_log.specs.from_spec_log.Texts.{is_plain, gives_all, defined_if, altered_if, meant_by, meant_in, meant_of, change_in}
+use Rattle.mq_law_log.specs.from_spec_log.Applies.{Start, applies}
+use Rattle.mq_law_log.specs.from_spec_log.Shelves.{added, added_all, removed, removed_all}
+use Rattle.mq_law_log.specs.from_spec_log.Records.{doing}
+use Rattle.mq_law_log.specs.from_spec_log.Bodies.{changing, meaning, meaning_of, record_of, behind, or_place, image_from, begins, image, empty_image}
+use Rattle.mq_law_log.proofs.from_law_manager.Lists.{bool_case}
 use Rattle.mq_law_image.specs.Values.{IsChangeText, IsObjectText, AreObjectTexts, IsCommandText, MakesText}
 use Rattle.mq_law_image.proofs.Valued.{defined_text, changed_text, manager_new, all_manager_text}
 use Rattle.mq_law_image.proofs.Lexed.{IsWholeCommand, commands_whole, read_text}

@@ -7,23 +7,23 @@ use Rattle.mq_calls.specs.declared.commands.ScRefusal.{ScRefusal}
 use Rattle.mq_calls.specs.declared.commands.ScRefusal.TheVariants as refusals
 use Rattle.mq_calls.specs.declared.records.LogRecord.{LogRecord}
 use Rattle.mq_calls.specs.declared.records.LogRecord.TheVariants as records
-use Rattle.mq_sc_apply.specs.declared.answers.Plan.{Plan}
-use Rattle.mq_sc_apply.specs.declared.answers.Plan.TheVariants as plans
-use Rattle.mq_sc_apply.specs.Commands.{plan}
+use Rattle.mq_law_log.specs.from_sc_apply.{Plan}
+use Rattle.mq_law_log.specs.from_sc_apply.PlanVariants as plans
+use Rattle.mq_law_log.specs.from_sc_apply.Commands.{plan}
 use Rattle.mq_sc_lex.specs.declared.token.Line.{Line}
 use Rattle.mq_sc_lex.specs.Commands.{commands_of}
 use Rattle.mq_sc_parse.specs.declared.command.Command.TheVariants as parsed
 use Rattle.mq_sc_parse.specs.Parsing.{parse_of}
-use Rattle.mq_record.specs.Records.{IsRecord, record_bytes}
+use Rattle.mq_law_log.specs.from_record.Records.{IsRecord, record_bytes}
 use Rattle.mq_calls.specs.State.{Plain}
 use Rattle.mq_calls.specs.Reads.{is_up}
 use Rattle.mq_calls.specs.Images.{lasting}
 use Rattle.mq_calls.specs.declared.image.Image.{Image}
 use Rattle.mq_calls.specs.Steps.{Part, when, do_part}
-use Rattle.mq_spec_manager.specs.Commands.{uses_of, planned_step, command}
-use Rattle.mq_spec_log.specs.Bodies.{record_of}
-use Rattle.mq_law_manager.specs.Facts.{Mem}
-use Rattle.mq_law_manager.proofs.ShortSteps.{tested_all}
+use Rattle.mq_law_log.specs.from_spec_manager.Commands.{uses_of, planned_step, command}
+use Rattle.mq_law_log.specs.from_spec_log.Bodies.{record_of}
+use Rattle.mq_law_log.specs.from_law_manager.Facts.{Mem}
+use Rattle.mq_law_log.proofs.from_law_manager.ShortSteps.{tested_all}
 use Rattle.mq_law_log.specs.Keeps.{Told, Keeps}
 use Rattle.mq_law_image.specs.Values.{AreObjectTexts, IsCommandText, MakesText, IsMade, StepMakes}
 use Rattle.mq_law_image.proofs.Valued.{command_text}

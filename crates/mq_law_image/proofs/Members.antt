@@ -14,10 +14,10 @@ use Rattle.mq_calls.specs.declared.state.ReceiverSide.{ReceiverSide}
 use Rattle.mq_calls.specs.Reads.{sender_in, receiver_in}
 use Rattle.mq_calls.specs.Changes.{set_named, comes_before}
 use Rattle.mq_calls.specs.declared.image.Shelf.{Shelf}
-use Rattle.mq_spec_log.specs.Shelves.{shelf_in, set_shelf, on_all}
-use Rattle.mq_law_manager.specs.Facts.{Mem, Chain, AreLaned}
-use Rattle.mq_law_manager.proofs.Lists.{bool_case, mem_insert, mem_keep, mem_retag}
-use Rattle.mq_law_manager.proofs.Named.{name_is}
+use Rattle.mq_law_log.specs.from_spec_log.Shelves.{shelf_in, set_shelf, on_all}
+use Rattle.mq_law_log.specs.from_law_manager.Facts.{Mem, Chain, AreLaned}
+use Rattle.mq_law_log.proofs.from_law_manager.Lists.{bool_case, mem_insert, mem_keep, mem_retag}
+use Rattle.mq_law_log.proofs.from_law_manager.Named.{name_is}
 
 -- Lists by members
 

@@ -9,10 +9,11 @@ use Rattle.mq_objects.specs.declared.object.Object.TheVariants as objects
 use Rattle.mq_objects.specs.Names.{Space, Queues, space_of, name_of, is_object, object_in, as_local, locals_in}
 use Rattle.mq_objects.specs.Changed.{set_in, delete_in}
 use Rattle.mq_calls.specs.declared.image.Shelf.{Shelf}
-use Rattle.mq_spec_log.specs.Shelves.{shelf_in, set_shelf}
-use Rattle.mq_law_manager.specs.Facts.{Mem, Chain, AreOnce, is_local}
-use Rattle.mq_law_manager.proofs.Lists.{bool_case}
-use Rattle.mq_law_manager.proofs.Named.{name_is, name_self, name_turned}
+use Rattle.mq_law_log.specs.from_spec_log.Shelves.{shelf_in, set_shelf}
+use Rattle.mq_law_log.specs.from_law_manager.Facts.{Mem, Chain, AreOnce, is_local}
+use Rattle.mq_law_log.proofs.from_law_manager.Lists.{bool_case}
+use Rattle.mq_law_log.proofs.from_law_manager.Named.{name_is, name_self, name_turned}
+pub use Rattle.mq_law_image.proofs.Keeping.{mem_mapped as mapped_mem}
 
 abbrev pub shelf_names : List Shelf → List (List ℕ)
 shelf_names ss = map (λ (s : Shelf). s.name) ss
@@ -157,11 +158,6 @@ names_differ (objects.Alias q ∷ rest) once = names_differ rest once.1
 names_differ (objects.Remote q ∷ rest) once = names_differ rest once.1
 names_differ (objects.Channel q ∷ rest) once = names_differ rest once.1
 names_differ (objects.Process q ∷ rest) once = names_differ rest once.1
-
-pub mapped_mem : {A B : Type 0} (f : A → B) (x : A) (xs : List A) → Mem x xs → Mem (f x) (map f xs)
-mapped_mem f x [] m = absurd m
-mapped_mem f x (y ∷ ys) (inl e) = inl (ap f e)
-mapped_mem f x (y ∷ ys) (inr m) = inr (mapped_mem f x ys m)
 
 shelves_differ : (ss : List Shelf) → Chain (λ (a b : List ℕ). bytes_eq a b ≡ false) (shelf_names ss) → Chain (λ (s t : Shelf). bytes_eq s.name t.name ≡ false) ss
 shelves_differ [] h = tt

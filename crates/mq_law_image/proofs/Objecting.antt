@@ -1,7 +1,7 @@
 -- The text of each kind of object is read as that object; so is a manager's.
 use Rattle.std.proofs.Common.{ℕ, ◌≡◌, ◌≤◌, ◌<◌, ◌^◌, Bool, true, false, List, [], ◌∷◌, ◌++◌, append_assoc, length, refl, ap, sym, ◌∙◌, arith, map, inl}
 use Rattle.std.specs.Prelude.{Some, None, ◌==◌, flat_map, codes}
-use Rattle.std.specs.List.{list_all}
+use Rattle.std.specs.List.{list_all, list_any}
 use Rattle.std.specs.Option.{option_map}
 use Rattle.std.specs.Str.{bytes_eq}
 use Rattle.std.specs.Fmt.{decimal}
@@ -30,29 +30,36 @@ use Rattle.mq_objects.specs.declared.setting.Setting.{Setting}
 use Rattle.mq_objects.specs.Defaults.{new_manager}
 use Rattle.mq_objects.specs.Settings.{set_all_manager}
 use Rattle.mq_objects.specs.declared.setting.Setting.TheVariants as settings
+use Rattle.mq_objects.specs.declared.setting.Keyword.TheVariants as keywords
+use Rattle.mq_objects.specs.declared.command.Subject.{Subject}
 use Rattle.mq_objects.specs.declared.command.Subject.TheVariants as subjects
 use Rattle.mq_objects.specs.declared.change.ObjectChange.TheVariants as changes
 use Rattle.mq_calls.specs.Sizes.{change_text}
+use Rattle.mq_law_log.specs.from_sc_apply.Planned.{defined_object}
+use Rattle.mq_sc_keys.specs.declared.keys.Key.{Key}
 use Rattle.mq_sc_keys.specs.declared.keys.Key.TheVariants as keys
 use Rattle.mq_sc_keys.specs.declared.verbs.Verb.TheVariants as verbs
+use Rattle.mq_sc_keys.specs.declared.verbs.Noun.{Noun}
 use Rattle.mq_sc_keys.specs.declared.verbs.Noun.TheVariants as nouns
+use Rattle.mq_sc_keys.specs.Verbs.{object_text, takes}
+use Rattle.mq_sc_keys.specs.declared.attributes.Kind.{Kind}
 use Rattle.mq_sc_keys.specs.declared.attributes.Kind.TheVariants as kinds
 use Rattle.mq_sc_keys.specs.declared.value.Value.TheVariants as values
 use Rattle.mq_sc_keys.specs.Keys.{key_text, group_of}
 use Rattle.mq_sc_keys.specs.Values as reads
 use Rattle.mq_sc_lex.specs.declared.token.TokenKind.TheVariants as tokens
 use Rattle.mq_sc_grammar.specs.Spelling.{Clause}
-use Rattle.mq_sc_grammar.specs.Commands.{keys_of}
-use Rattle.mq_record.specs.declared.record.Operation.TheVariants.{Set as Sets}
-use Rattle.mq_spec_log.specs.Texts.{gives_all, change_in}
+use Rattle.mq_sc_grammar.specs.Commands.{keys_of, IsKind, HasNeeded}
+use Rattle.mq_law_log.specs.from_record.OperationVariants.{Set as Sets}
+use Rattle.mq_law_log.specs.from_spec_log.Texts.{gives_all, change_in}
 use Rattle.mq_law_image.specs.Laid.Bit.{Word}
-use Rattle.mq_law_image.specs.Laid.{text_of, IsWell, is_no_end, Written, clause_bits, all_bits, clauses_of, settings_of, AreWritten, CanDefine, alter_bits}
+use Rattle.mq_law_image.specs.Laid.{text_of, IsWell, is_no_end, Written, IsWritten, clause_bits, all_bits, clauses_of, settings_of, AreWritten, CanDefine, alter_bits}
 use Rattle.mq_law_image.specs.Values.{kept_keys, AreKeptTexts, IsManagerText, IsLocalText, IsAliasText, IsRemoteText, IsProcessText, IsSenderText, IsReceiverText, IsKindText, IsChannelText}
 use Rattle.mq_law_image.proofs.Members.{none_any}
 use Rattle.mq_law_image.proofs.Deleting.{doubled_same, name_read, name_unblank}
 use Rattle.mq_law_image.proofs.Giving.{text_append, alter_read}
-use Rattle.mq_law_image.proofs.Keeping.{kept_clauses, kept_settings, kept_written, kept_text, kept_single, bits_append, written_append, all_settings, counts_same, set_manager_append, never_said, local_kept, alias_kept, remote_kept, process_kept, manager_kept, sender_kept, receiver_kept, local_keeps, alias_keeps, remote_keeps, process_keeps, channel_keeps, manager_keeps, define_keeps}
-use Rattle.mq_law_image.proofs.Writing.{keys_apart, key_there, not_there, word_written, number_written, name_written, text_written, flag_written, appl_written}
+use Rattle.mq_law_image.proofs.Keeping.{CanKeep, kept_clauses, kept_settings, kept_written, kept_text, kept_single, bits_append, written_append, all_settings, counts_same, set_manager_append, never_said, local_kept, alias_kept, remote_kept, process_kept, manager_kept, sender_kept, receiver_kept, local_keeps, alias_keeps, remote_keeps, process_keeps, channel_keeps, manager_keeps, define_keeps}
+use Rattle.mq_law_image.proofs.Writing.{are_apart, keys_apart, key_there, not_there, word_written, number_written, name_written, text_written, flag_written, appl_written}
 
 -- ---- words of values
 
@@ -180,24 +187,31 @@ define_same name as_ kept ws vs same behind =
     ∙ ap (λ (d : List ℕ). ((codes "'" ++ d ++ codes "'") ++ codes ")") ++ text_of (all_bits (ws ++ vs))) (doubled_same name)
     ∙ append_assoc (quoting.quoted name) (41 ∷ []) (text_of (all_bits (ws ++ vs)))
 
+-- what a DEFINE asks that is seen by computing: of its noun, of its keywords, and that its attributes are those of the object
+can_define : (s : Subject) (noun : Noun) (kind : Kind) (ws : List Written) → IsKind noun (clauses_of ws) kind → AreWritten verbs.Define kind ws → HasNeeded kind (clauses_of ws) → takes verbs.Define noun ≡ true → IsWell (Word (object_text noun)) → list_all is_no_end (object_text noun) ≡ true
+    → (bytes_eq (object_text noun) (codes "REPLACE") ≡ false) × (bytes_eq (object_text noun) (codes "NOREPLACE") ≡ false) → are_apart (map group_of (keys_of (clauses_of ws))) ≡ true → list_any (λ (c : Clause). bytes_eq (key_text c.key) (codes "REPLACE")) (clauses_of ws) ≡ false
+    → list_any (λ (c : Clause). bytes_eq (key_text c.key) (codes "NOREPLACE")) (clauses_of ws) ≡ false → gives_all (settings_of ws) (texts.attributes (defined_object s (settings_of ws))) ≡ true → CanDefine s noun kind ws
+can_define s noun kind ws is_kind written needed goes word one_line apart single replace noreplace all = record {
+  goes = goes;
+  is_kind = is_kind;
+  written = written;
+  single = keys_apart (map group_of (keys_of (clauses_of ws))) single;
+  needed = needed;
+  replace = none_any (λ (c : Clause). bytes_eq (key_text c.key) (codes "REPLACE")) (clauses_of ws) replace;
+  noreplace = none_any (λ (c : Clause). bytes_eq (key_text c.key) (codes "NOREPLACE")) (clauses_of ws) noreplace;
+  word = word;
+  one_line = one_line;
+  apart = apart.0;
+  noapart = apart.1;
+  all = all;
+}
+
 abbrev alias_clauses : AliasQueue → List Written
 alias_clauses q = record { clause = record { key = keys.DefPrty; value = Some (decimal q.default_priority) }; in_quotes = false; setting = settings.DefaultPriority q.default_priority } ∷ record { clause = record { key = keys.DefPsist; value = Some (texts.yes_or_no q.default_persistent) }; in_quotes = false; setting = settings.DefaultPersistent q.default_persistent } ∷ record { clause = record { key = keys.Get; value = Some (texts.enabled_or_not q.get_enabled) }; in_quotes = false; setting = settings.GetEnabled q.get_enabled } ∷ record { clause = record { key = keys.Put; value = Some (texts.enabled_or_not q.put_enabled) }; in_quotes = false; setting = settings.PutEnabled q.put_enabled } ∷ record { clause = record { key = keys.Target; value = Some q.target }; in_quotes = true; setting = settings.Target q.target } ∷ []
 
 alias_can : (b : ℕ) (bs : List ℕ) (q : AliasQueue) → IsAliasText q → CanDefine (subjects.Alias (b ∷ bs)) nouns.Alias kinds.Alias (alias_clauses q)
-alias_can b bs q h = record {
-  goes = refl;
-  is_kind = refl;
-  written = (number_written verbs.Define kinds.Alias keys.DefPrty 0 9 q.default_priority settings.DefaultPriority (record { known = refl; word = (refl, refl); whole = refl }) refl (omega arith) h.default_priority (below q.default_priority 9 h.default_priority (omega arith)), (word_written verbs.Define kinds.Alias keys.DefPsist (texts.yes_or_no q.default_persistent) (settings.DefaultPersistent q.default_persistent) (record { known = refl; word = (refl, refl); whole = refl }) (yes_word q.default_persistent).well (yes_word q.default_persistent).whole (ap (reads.set_to settings.DefaultPersistent) (yes_given q.default_persistent)), (word_written verbs.Define kinds.Alias keys.Get (texts.enabled_or_not q.get_enabled) (settings.GetEnabled q.get_enabled) (record { known = refl; word = (refl, refl); whole = refl }) (enabled_word q.get_enabled).well (enabled_word q.get_enabled).whole (ap (reads.set_to settings.GetEnabled) (enabled_given q.get_enabled)), (word_written verbs.Define kinds.Alias keys.Put (texts.enabled_or_not q.put_enabled) (settings.PutEnabled q.put_enabled) (record { known = refl; word = (refl, refl); whole = refl }) (enabled_word q.put_enabled).well (enabled_word q.put_enabled).whole (ap (reads.set_to settings.PutEnabled) (enabled_given q.put_enabled)), (name_written verbs.Define kinds.Alias keys.Target q.target settings.Target (record { known = refl; word = (refl, refl); whole = refl }) refl h.target, tt)))));
-  single = keys_apart (map group_of (keys_of (clauses_of (alias_clauses q)))) refl;
-  needed = tt;
-  replace = none_any (λ (c : Clause). bytes_eq (key_text c.key) (codes "REPLACE")) (clauses_of (alias_clauses q)) refl;
-  noreplace = none_any (λ (c : Clause). bytes_eq (key_text c.key) (codes "NOREPLACE")) (clauses_of (alias_clauses q)) refl;
-  word = (refl, refl);
-  one_line = refl;
-  apart = refl;
-  noapart = refl;
-  all = refl;
-}
+alias_can b bs q h =
+    can_define (subjects.Alias (b ∷ bs)) nouns.Alias kinds.Alias (alias_clauses q) refl (number_written verbs.Define kinds.Alias keys.DefPrty 0 9 q.default_priority settings.DefaultPriority (record { known = refl; word = (refl, refl); whole = refl }) refl (omega arith) h.default_priority (below q.default_priority 9 h.default_priority (omega arith)), (word_written verbs.Define kinds.Alias keys.DefPsist (texts.yes_or_no q.default_persistent) (settings.DefaultPersistent q.default_persistent) (record { known = refl; word = (refl, refl); whole = refl }) (yes_word q.default_persistent).well (yes_word q.default_persistent).whole (ap (reads.set_to settings.DefaultPersistent) (yes_given q.default_persistent)), (word_written verbs.Define kinds.Alias keys.Get (texts.enabled_or_not q.get_enabled) (settings.GetEnabled q.get_enabled) (record { known = refl; word = (refl, refl); whole = refl }) (enabled_word q.get_enabled).well (enabled_word q.get_enabled).whole (ap (reads.set_to settings.GetEnabled) (enabled_given q.get_enabled)), (word_written verbs.Define kinds.Alias keys.Put (texts.enabled_or_not q.put_enabled) (settings.PutEnabled q.put_enabled) (record { known = refl; word = (refl, refl); whole = refl }) (enabled_word q.put_enabled).well (enabled_word q.put_enabled).whole (ap (reads.set_to settings.PutEnabled) (enabled_given q.put_enabled)), (name_written verbs.Define kinds.Alias keys.Target q.target settings.Target (record { known = refl; word = (refl, refl); whole = refl }) refl h.target, tt))))) tt refl (refl, refl) refl (refl, refl) refl refl refl refl
 
 alias_by : (b : ℕ) (bs : List ℕ) (q : AliasQueue) (ks : List KeptAttribute) (k : AreKeptTexts (kept_keys kinds.Alias) ks) → IsName 48 (b ∷ bs) → IsAliasText q → change_in Sets (change_text (changes.Set (objects.Alias (record q { name = b ∷ bs; kept = ks })))) ≡ Some (changes.Set (objects.Alias (record q { name = b ∷ bs; kept = ks })))
 alias_by b bs q ks k name h =
@@ -209,20 +223,8 @@ abbrev remote_clauses : RemoteQueue → List Written
 remote_clauses q = record { clause = record { key = keys.DefPrty; value = Some (decimal q.default_priority) }; in_quotes = false; setting = settings.DefaultPriority q.default_priority } ∷ record { clause = record { key = keys.DefPsist; value = Some (texts.yes_or_no q.default_persistent) }; in_quotes = false; setting = settings.DefaultPersistent q.default_persistent } ∷ record { clause = record { key = keys.Put; value = Some (texts.enabled_or_not q.put_enabled) }; in_quotes = false; setting = settings.PutEnabled q.put_enabled } ∷ record { clause = record { key = keys.RName; value = Some q.remote_name }; in_quotes = true; setting = settings.RemoteName q.remote_name } ∷ record { clause = record { key = keys.RQMName; value = Some q.remote_manager }; in_quotes = true; setting = settings.RemoteManager q.remote_manager } ∷ record { clause = record { key = keys.XmitQ; value = Some q.transmission_queue }; in_quotes = true; setting = settings.TransmissionQueue q.transmission_queue } ∷ []
 
 remote_can : (b : ℕ) (bs : List ℕ) (q : RemoteQueue) → IsRemoteText q → CanDefine (subjects.Remote (b ∷ bs)) nouns.Remote kinds.Remote (remote_clauses q)
-remote_can b bs q h = record {
-  goes = refl;
-  is_kind = refl;
-  written = (number_written verbs.Define kinds.Remote keys.DefPrty 0 9 q.default_priority settings.DefaultPriority (record { known = refl; word = (refl, refl); whole = refl }) refl (omega arith) h.default_priority (below q.default_priority 9 h.default_priority (omega arith)), (word_written verbs.Define kinds.Remote keys.DefPsist (texts.yes_or_no q.default_persistent) (settings.DefaultPersistent q.default_persistent) (record { known = refl; word = (refl, refl); whole = refl }) (yes_word q.default_persistent).well (yes_word q.default_persistent).whole (ap (reads.set_to settings.DefaultPersistent) (yes_given q.default_persistent)), (word_written verbs.Define kinds.Remote keys.Put (texts.enabled_or_not q.put_enabled) (settings.PutEnabled q.put_enabled) (record { known = refl; word = (refl, refl); whole = refl }) (enabled_word q.put_enabled).well (enabled_word q.put_enabled).whole (ap (reads.set_to settings.PutEnabled) (enabled_given q.put_enabled)), (name_written verbs.Define kinds.Remote keys.RName q.remote_name settings.RemoteName (record { known = refl; word = (refl, refl); whole = refl }) refl h.remote_name, (name_written verbs.Define kinds.Remote keys.RQMName q.remote_manager settings.RemoteManager (record { known = refl; word = (refl, refl); whole = refl }) refl h.remote_manager, (name_written verbs.Define kinds.Remote keys.XmitQ q.transmission_queue settings.TransmissionQueue (record { known = refl; word = (refl, refl); whole = refl }) refl h.transmission_queue, tt))))));
-  single = keys_apart (map group_of (keys_of (clauses_of (remote_clauses q)))) refl;
-  needed = tt;
-  replace = none_any (λ (c : Clause). bytes_eq (key_text c.key) (codes "REPLACE")) (clauses_of (remote_clauses q)) refl;
-  noreplace = none_any (λ (c : Clause). bytes_eq (key_text c.key) (codes "NOREPLACE")) (clauses_of (remote_clauses q)) refl;
-  word = (refl, refl);
-  one_line = refl;
-  apart = refl;
-  noapart = refl;
-  all = refl;
-}
+remote_can b bs q h =
+    can_define (subjects.Remote (b ∷ bs)) nouns.Remote kinds.Remote (remote_clauses q) refl (number_written verbs.Define kinds.Remote keys.DefPrty 0 9 q.default_priority settings.DefaultPriority (record { known = refl; word = (refl, refl); whole = refl }) refl (omega arith) h.default_priority (below q.default_priority 9 h.default_priority (omega arith)), (word_written verbs.Define kinds.Remote keys.DefPsist (texts.yes_or_no q.default_persistent) (settings.DefaultPersistent q.default_persistent) (record { known = refl; word = (refl, refl); whole = refl }) (yes_word q.default_persistent).well (yes_word q.default_persistent).whole (ap (reads.set_to settings.DefaultPersistent) (yes_given q.default_persistent)), (word_written verbs.Define kinds.Remote keys.Put (texts.enabled_or_not q.put_enabled) (settings.PutEnabled q.put_enabled) (record { known = refl; word = (refl, refl); whole = refl }) (enabled_word q.put_enabled).well (enabled_word q.put_enabled).whole (ap (reads.set_to settings.PutEnabled) (enabled_given q.put_enabled)), (name_written verbs.Define kinds.Remote keys.RName q.remote_name settings.RemoteName (record { known = refl; word = (refl, refl); whole = refl }) refl h.remote_name, (name_written verbs.Define kinds.Remote keys.RQMName q.remote_manager settings.RemoteManager (record { known = refl; word = (refl, refl); whole = refl }) refl h.remote_manager, (name_written verbs.Define kinds.Remote keys.XmitQ q.transmission_queue settings.TransmissionQueue (record { known = refl; word = (refl, refl); whole = refl }) refl h.transmission_queue, tt)))))) tt refl (refl, refl) refl (refl, refl) refl refl refl refl
 
 remote_by : (b : ℕ) (bs : List ℕ) (q : RemoteQueue) (ks : List KeptAttribute) (k : AreKeptTexts (kept_keys kinds.Remote) ks) → IsName 48 (b ∷ bs) → IsRemoteText q → change_in Sets (change_text (changes.Set (objects.Remote (record q { name = b ∷ bs; kept = ks })))) ≡ Some (changes.Set (objects.Remote (record q { name = b ∷ bs; kept = ks })))
 remote_by b bs q ks k name h =
@@ -230,55 +232,41 @@ remote_by b bs q ks k name h =
     ∙ define_keeps (subjects.Remote (b ∷ bs)) nouns.Remote kinds.Remote 48 b bs (remote_clauses q) (kept_keys kinds.Remote) ks k name (ap (λ r. option_map subjects.Remote (reads.name_or_none r)) (name_read 48 b bs name)) ((tokens.Quoted (b ∷ bs), refl, refl), name_unblank 48 b bs name) (remote_can b bs q h) (record { table = remote_kept; is_kind = refl; needed = tt; clear = refl; replace = refl; noreplace = refl })
     ∙ ap (λ (o : Object). Some (changes.Set o)) (remote_keeps (kept_keys kinds.Remote) ks (record q { name = b ∷ bs; kept = [] }) k refl)
 
-abbrev local_clauses_on : LocalQueue → List Written
-local_clauses_on q = record { clause = record { key = keys.DefPrty; value = Some (decimal q.default_priority) }; in_quotes = false; setting = settings.DefaultPriority q.default_priority } ∷ record { clause = record { key = keys.DefPsist; value = Some (texts.yes_or_no q.default_persistent) }; in_quotes = false; setting = settings.DefaultPersistent q.default_persistent } ∷ record { clause = record { key = keys.Get; value = Some (texts.enabled_or_not q.get_enabled) }; in_quotes = false; setting = settings.GetEnabled q.get_enabled } ∷ record { clause = record { key = keys.InitQ; value = Some q.initiation_queue }; in_quotes = true; setting = settings.InitiationQueue q.initiation_queue } ∷ record { clause = record { key = keys.MaxDepth; value = Some (decimal q.max_depth) }; in_quotes = false; setting = settings.MaxDepth q.max_depth } ∷ record { clause = record { key = keys.MaxMsgL; value = Some (decimal q.max_message_length) }; in_quotes = false; setting = settings.MaxMessageLength q.max_message_length } ∷ record { clause = record { key = keys.MsgDlvSq; value = Some (texts.delivery_word q.delivery) }; in_quotes = false; setting = settings.Delivery q.delivery } ∷ record { clause = record { key = keys.Process; value = Some q.process }; in_quotes = true; setting = settings.Process q.process } ∷ record { clause = record { key = keys.Put; value = Some (texts.enabled_or_not q.put_enabled) }; in_quotes = false; setting = settings.PutEnabled q.put_enabled } ∷ record { clause = record { key = keys.TrigData; value = Some q.trigger_data }; in_quotes = true; setting = settings.TriggerData q.trigger_data } ∷ record { clause = record { key = keys.TrigDpth; value = Some (decimal q.trigger_depth) }; in_quotes = false; setting = settings.TriggerDepth q.trigger_depth } ∷ record { clause = record { key = keys.Trigger; value = None }; in_quotes = false; setting = settings.Trigger true } ∷ record { clause = record { key = keys.TrigMPri; value = Some (decimal q.trigger_priority) }; in_quotes = false; setting = settings.TriggerPriority q.trigger_priority } ∷ record { clause = record { key = keys.TrigType; value = Some (texts.trigger_word q.trigger_type) }; in_quotes = false; setting = settings.TriggerType q.trigger_type } ∷ record { clause = record { key = keys.Usage; value = Some (texts.usage_word q.usage) }; in_quotes = false; setting = settings.Usage q.usage } ∷ []
+-- TRIGGER or NOTRIGGER
+abbrev trigger_key : Bool → Key
+trigger_key true = keys.Trigger
+trigger_key false = keys.NoTrigger
 
-local_can_on : (b : ℕ) (bs : List ℕ) (q : LocalQueue) → IsLocalText q → CanDefine (subjects.Local (b ∷ bs)) nouns.Local kinds.Local (local_clauses_on q)
-local_can_on b bs q h = record {
-  goes = refl;
-  is_kind = refl;
-  written = (number_written verbs.Define kinds.Local keys.DefPrty 0 9 q.default_priority settings.DefaultPriority (record { known = refl; word = (refl, refl); whole = refl }) refl (omega arith) h.default_priority (below q.default_priority 9 h.default_priority (omega arith)), (word_written verbs.Define kinds.Local keys.DefPsist (texts.yes_or_no q.default_persistent) (settings.DefaultPersistent q.default_persistent) (record { known = refl; word = (refl, refl); whole = refl }) (yes_word q.default_persistent).well (yes_word q.default_persistent).whole (ap (reads.set_to settings.DefaultPersistent) (yes_given q.default_persistent)), (word_written verbs.Define kinds.Local keys.Get (texts.enabled_or_not q.get_enabled) (settings.GetEnabled q.get_enabled) (record { known = refl; word = (refl, refl); whole = refl }) (enabled_word q.get_enabled).well (enabled_word q.get_enabled).whole (ap (reads.set_to settings.GetEnabled) (enabled_given q.get_enabled)), (name_written verbs.Define kinds.Local keys.InitQ q.initiation_queue settings.InitiationQueue (record { known = refl; word = (refl, refl); whole = refl }) refl h.initiation_queue, (number_written verbs.Define kinds.Local keys.MaxDepth 0 999999999 q.max_depth settings.MaxDepth (record { known = refl; word = (refl, refl); whole = refl }) refl (omega arith) h.max_depth (below q.max_depth 999999999 h.max_depth (omega arith)), (number_written verbs.Define kinds.Local keys.MaxMsgL 0 4194304 q.max_message_length settings.MaxMessageLength (record { known = refl; word = (refl, refl); whole = refl }) refl (omega arith) h.max_message_length (below q.max_message_length 4194304 h.max_message_length (omega arith)), (word_written verbs.Define kinds.Local keys.MsgDlvSq (texts.delivery_word q.delivery) (settings.Delivery q.delivery) (record { known = refl; word = (refl, refl); whole = refl }) (delivery_word q.delivery).well (delivery_word q.delivery).whole (ap (reads.set_to settings.Delivery) (delivery_given q.delivery)), (name_written verbs.Define kinds.Local keys.Process q.process settings.Process (record { known = refl; word = (refl, refl); whole = refl }) refl h.process, (word_written verbs.Define kinds.Local keys.Put (texts.enabled_or_not q.put_enabled) (settings.PutEnabled q.put_enabled) (record { known = refl; word = (refl, refl); whole = refl }) (enabled_word q.put_enabled).well (enabled_word q.put_enabled).whole (ap (reads.set_to settings.PutEnabled) (enabled_given q.put_enabled)), (text_written verbs.Define kinds.Local keys.TrigData 64 q.trigger_data settings.TriggerData (record { known = refl; word = (refl, refl); whole = refl }) refl h.trigger_data.0 h.trigger_data.1, (number_written verbs.Define kinds.Local keys.TrigDpth 1 999999999 q.trigger_depth settings.TriggerDepth (record { known = refl; word = (refl, refl); whole = refl }) refl h.trigger_depth.0 h.trigger_depth.1 (below q.trigger_depth 999999999 h.trigger_depth.1 (omega arith)), (flag_written verbs.Define kinds.Local keys.Trigger (settings.Trigger true) (record { known = refl; word = (refl, refl); whole = refl }) refl (record { front = codes " TRIGGE"; last = 82; is = refl; unblank = refl; unsigned = refl }), (number_written verbs.Define kinds.Local keys.TrigMPri 0 9 q.trigger_priority settings.TriggerPriority (record { known = refl; word = (refl, refl); whole = refl }) refl (omega arith) h.trigger_priority (below q.trigger_priority 9 h.trigger_priority (omega arith)), (word_written verbs.Define kinds.Local keys.TrigType (texts.trigger_word q.trigger_type) (settings.TriggerType q.trigger_type) (record { known = refl; word = (refl, refl); whole = refl }) (trigger_word q.trigger_type).well (trigger_word q.trigger_type).whole (ap (reads.set_to settings.TriggerType) (trigger_given q.trigger_type)), (word_written verbs.Define kinds.Local keys.Usage (texts.usage_word q.usage) (settings.Usage q.usage) (record { known = refl; word = (refl, refl); whole = refl }) (usage_word q.usage).well (usage_word q.usage).whole (ap (reads.set_to settings.Usage) (usage_given q.usage)), tt)))))))))))))));
-  single = keys_apart (map group_of (keys_of (clauses_of (local_clauses_on q)))) refl;
-  needed = tt;
-  replace = none_any (λ (c : Clause). bytes_eq (key_text c.key) (codes "REPLACE")) (clauses_of (local_clauses_on q)) refl;
-  noreplace = none_any (λ (c : Clause). bytes_eq (key_text c.key) (codes "NOREPLACE")) (clauses_of (local_clauses_on q)) refl;
-  word = (refl, refl);
-  one_line = refl;
-  apart = refl;
-  noapart = refl;
-  all = refl;
-}
+abbrev trigger_clause : Bool → Written
+trigger_clause t = record { clause = record { key = trigger_key t; value = None }; in_quotes = false; setting = settings.Trigger t }
 
-local_by_on : (b : ℕ) (bs : List ℕ) (q : LocalQueue) (ks : List KeptAttribute) (k : AreKeptTexts (kept_keys kinds.Local) ks) → IsName 48 (b ∷ bs) → IsLocalText q → change_in Sets (change_text (changes.Set (objects.Local (record q { name = b ∷ bs; kept = ks; trigger = true })))) ≡ Some (changes.Set (objects.Local (record q { name = b ∷ bs; kept = ks; trigger = true })))
-local_by_on b bs q ks k name h =
-    ap (change_in Sets) (ap (λ (t : List ℕ). codes "DEFINE QLOCAL(" ++ t) (define_same (b ∷ bs) (texts.local_attributes (record q { name = b ∷ bs; kept = ks; trigger = true })) ks (local_clauses_on q) (kept_clauses (kept_keys kinds.Local) ks k) (refl, (refl, (refl, (ap (λ (d : List ℕ). codes " " ++ texts.in_brackets (codes "INITQ") (codes "'" ++ d ++ codes "'")) (doubled_same q.initiation_queue), (refl, (refl, (refl, (ap (λ (d : List ℕ). codes " " ++ texts.in_brackets (codes "PROCESS") (codes "'" ++ d ++ codes "'")) (doubled_same q.process), (refl, (ap (λ (d : List ℕ). codes " " ++ texts.in_brackets (codes "TRIGDATA") (codes "'" ++ d ++ codes "'")) (doubled_same q.trigger_data), (refl, (refl, (refl, (refl, (refl, tt))))))))))))))) (kept_text verbs.Define kinds.Local (kept_keys kinds.Local) ks k local_kept)))
-    ∙ define_keeps (subjects.Local (b ∷ bs)) nouns.Local kinds.Local 48 b bs (local_clauses_on q) (kept_keys kinds.Local) ks k name (ap (λ r. option_map subjects.Local (reads.name_or_none r)) (name_read 48 b bs name)) ((tokens.Quoted (b ∷ bs), refl, refl), name_unblank 48 b bs name) (local_can_on b bs q h) (record { table = local_kept; is_kind = refl; needed = tt; clear = refl; replace = refl; noreplace = refl })
-    ∙ ap (λ (o : Object). Some (changes.Set o)) (local_keeps (kept_keys kinds.Local) ks (record q { name = b ∷ bs; kept = []; trigger = true }) k refl)
+trigger_written : (t : Bool) → IsWritten verbs.Define kinds.Local (trigger_clause t)
+trigger_written true = flag_written verbs.Define kinds.Local keys.Trigger (settings.Trigger true) (record { known = refl; word = (refl, refl); whole = refl }) refl (record { front = codes " TRIGGE"; last = 82; is = refl; unblank = refl; unsigned = refl })
+trigger_written false = flag_written verbs.Define kinds.Local keys.NoTrigger (settings.Trigger false) (record { known = refl; word = (refl, refl); whole = refl }) refl (record { front = codes " NOTRIGGE"; last = 82; is = refl; unblank = refl; unsigned = refl })
 
-abbrev local_clauses_off : LocalQueue → List Written
-local_clauses_off q = record { clause = record { key = keys.DefPrty; value = Some (decimal q.default_priority) }; in_quotes = false; setting = settings.DefaultPriority q.default_priority } ∷ record { clause = record { key = keys.DefPsist; value = Some (texts.yes_or_no q.default_persistent) }; in_quotes = false; setting = settings.DefaultPersistent q.default_persistent } ∷ record { clause = record { key = keys.Get; value = Some (texts.enabled_or_not q.get_enabled) }; in_quotes = false; setting = settings.GetEnabled q.get_enabled } ∷ record { clause = record { key = keys.InitQ; value = Some q.initiation_queue }; in_quotes = true; setting = settings.InitiationQueue q.initiation_queue } ∷ record { clause = record { key = keys.MaxDepth; value = Some (decimal q.max_depth) }; in_quotes = false; setting = settings.MaxDepth q.max_depth } ∷ record { clause = record { key = keys.MaxMsgL; value = Some (decimal q.max_message_length) }; in_quotes = false; setting = settings.MaxMessageLength q.max_message_length } ∷ record { clause = record { key = keys.MsgDlvSq; value = Some (texts.delivery_word q.delivery) }; in_quotes = false; setting = settings.Delivery q.delivery } ∷ record { clause = record { key = keys.Process; value = Some q.process }; in_quotes = true; setting = settings.Process q.process } ∷ record { clause = record { key = keys.Put; value = Some (texts.enabled_or_not q.put_enabled) }; in_quotes = false; setting = settings.PutEnabled q.put_enabled } ∷ record { clause = record { key = keys.TrigData; value = Some q.trigger_data }; in_quotes = true; setting = settings.TriggerData q.trigger_data } ∷ record { clause = record { key = keys.TrigDpth; value = Some (decimal q.trigger_depth) }; in_quotes = false; setting = settings.TriggerDepth q.trigger_depth } ∷ record { clause = record { key = keys.NoTrigger; value = None }; in_quotes = false; setting = settings.Trigger false } ∷ record { clause = record { key = keys.TrigMPri; value = Some (decimal q.trigger_priority) }; in_quotes = false; setting = settings.TriggerPriority q.trigger_priority } ∷ record { clause = record { key = keys.TrigType; value = Some (texts.trigger_word q.trigger_type) }; in_quotes = false; setting = settings.TriggerType q.trigger_type } ∷ record { clause = record { key = keys.Usage; value = Some (texts.usage_word q.usage) }; in_quotes = false; setting = settings.Usage q.usage } ∷ []
+trigger_same : (t : Bool) → attribute_text (texts.flag_of keywords.Trigger (texts.trigger_flag t)) ≡ text_of (clause_bits (trigger_clause t))
+trigger_same true = refl
+trigger_same false = refl
 
-local_can_off : (b : ℕ) (bs : List ℕ) (q : LocalQueue) → IsLocalText q → CanDefine (subjects.Local (b ∷ bs)) nouns.Local kinds.Local (local_clauses_off q)
-local_can_off b bs q h = record {
-  goes = refl;
-  is_kind = refl;
-  written = (number_written verbs.Define kinds.Local keys.DefPrty 0 9 q.default_priority settings.DefaultPriority (record { known = refl; word = (refl, refl); whole = refl }) refl (omega arith) h.default_priority (below q.default_priority 9 h.default_priority (omega arith)), (word_written verbs.Define kinds.Local keys.DefPsist (texts.yes_or_no q.default_persistent) (settings.DefaultPersistent q.default_persistent) (record { known = refl; word = (refl, refl); whole = refl }) (yes_word q.default_persistent).well (yes_word q.default_persistent).whole (ap (reads.set_to settings.DefaultPersistent) (yes_given q.default_persistent)), (word_written verbs.Define kinds.Local keys.Get (texts.enabled_or_not q.get_enabled) (settings.GetEnabled q.get_enabled) (record { known = refl; word = (refl, refl); whole = refl }) (enabled_word q.get_enabled).well (enabled_word q.get_enabled).whole (ap (reads.set_to settings.GetEnabled) (enabled_given q.get_enabled)), (name_written verbs.Define kinds.Local keys.InitQ q.initiation_queue settings.InitiationQueue (record { known = refl; word = (refl, refl); whole = refl }) refl h.initiation_queue, (number_written verbs.Define kinds.Local keys.MaxDepth 0 999999999 q.max_depth settings.MaxDepth (record { known = refl; word = (refl, refl); whole = refl }) refl (omega arith) h.max_depth (below q.max_depth 999999999 h.max_depth (omega arith)), (number_written verbs.Define kinds.Local keys.MaxMsgL 0 4194304 q.max_message_length settings.MaxMessageLength (record { known = refl; word = (refl, refl); whole = refl }) refl (omega arith) h.max_message_length (below q.max_message_length 4194304 h.max_message_length (omega arith)), (word_written verbs.Define kinds.Local keys.MsgDlvSq (texts.delivery_word q.delivery) (settings.Delivery q.delivery) (record { known = refl; word = (refl, refl); whole = refl }) (delivery_word q.delivery).well (delivery_word q.delivery).whole (ap (reads.set_to settings.Delivery) (delivery_given q.delivery)), (name_written verbs.Define kinds.Local keys.Process q.process settings.Process (record { known = refl; word = (refl, refl); whole = refl }) refl h.process, (word_written verbs.Define kinds.Local keys.Put (texts.enabled_or_not q.put_enabled) (settings.PutEnabled q.put_enabled) (record { known = refl; word = (refl, refl); whole = refl }) (enabled_word q.put_enabled).well (enabled_word q.put_enabled).whole (ap (reads.set_to settings.PutEnabled) (enabled_given q.put_enabled)), (text_written verbs.Define kinds.Local keys.TrigData 64 q.trigger_data settings.TriggerData (record { known = refl; word = (refl, refl); whole = refl }) refl h.trigger_data.0 h.trigger_data.1, (number_written verbs.Define kinds.Local keys.TrigDpth 1 999999999 q.trigger_depth settings.TriggerDepth (record { known = refl; word = (refl, refl); whole = refl }) refl h.trigger_depth.0 h.trigger_depth.1 (below q.trigger_depth 999999999 h.trigger_depth.1 (omega arith)), (flag_written verbs.Define kinds.Local keys.NoTrigger (settings.Trigger false) (record { known = refl; word = (refl, refl); whole = refl }) refl (record { front = codes " NOTRIGGE"; last = 82; is = refl; unblank = refl; unsigned = refl }), (number_written verbs.Define kinds.Local keys.TrigMPri 0 9 q.trigger_priority settings.TriggerPriority (record { known = refl; word = (refl, refl); whole = refl }) refl (omega arith) h.trigger_priority (below q.trigger_priority 9 h.trigger_priority (omega arith)), (word_written verbs.Define kinds.Local keys.TrigType (texts.trigger_word q.trigger_type) (settings.TriggerType q.trigger_type) (record { known = refl; word = (refl, refl); whole = refl }) (trigger_word q.trigger_type).well (trigger_word q.trigger_type).whole (ap (reads.set_to settings.TriggerType) (trigger_given q.trigger_type)), (word_written verbs.Define kinds.Local keys.Usage (texts.usage_word q.usage) (settings.Usage q.usage) (record { known = refl; word = (refl, refl); whole = refl }) (usage_word q.usage).well (usage_word q.usage).whole (ap (reads.set_to settings.Usage) (usage_given q.usage)), tt)))))))))))))));
-  single = keys_apart (map group_of (keys_of (clauses_of (local_clauses_off q)))) refl;
-  needed = tt;
-  replace = none_any (λ (c : Clause). bytes_eq (key_text c.key) (codes "REPLACE")) (clauses_of (local_clauses_off q)) refl;
-  noreplace = none_any (λ (c : Clause). bytes_eq (key_text c.key) (codes "NOREPLACE")) (clauses_of (local_clauses_off q)) refl;
-  word = (refl, refl);
-  one_line = refl;
-  apart = refl;
-  noapart = refl;
-  all = refl;
-}
+abbrev local_clauses : Bool → LocalQueue → List Written
+local_clauses t q = record { clause = record { key = keys.DefPrty; value = Some (decimal q.default_priority) }; in_quotes = false; setting = settings.DefaultPriority q.default_priority } ∷ record { clause = record { key = keys.DefPsist; value = Some (texts.yes_or_no q.default_persistent) }; in_quotes = false; setting = settings.DefaultPersistent q.default_persistent } ∷ record { clause = record { key = keys.Get; value = Some (texts.enabled_or_not q.get_enabled) }; in_quotes = false; setting = settings.GetEnabled q.get_enabled } ∷ record { clause = record { key = keys.InitQ; value = Some q.initiation_queue }; in_quotes = true; setting = settings.InitiationQueue q.initiation_queue } ∷ record { clause = record { key = keys.MaxDepth; value = Some (decimal q.max_depth) }; in_quotes = false; setting = settings.MaxDepth q.max_depth } ∷ record { clause = record { key = keys.MaxMsgL; value = Some (decimal q.max_message_length) }; in_quotes = false; setting = settings.MaxMessageLength q.max_message_length } ∷ record { clause = record { key = keys.MsgDlvSq; value = Some (texts.delivery_word q.delivery) }; in_quotes = false; setting = settings.Delivery q.delivery } ∷ record { clause = record { key = keys.Process; value = Some q.process }; in_quotes = true; setting = settings.Process q.process } ∷ record { clause = record { key = keys.Put; value = Some (texts.enabled_or_not q.put_enabled) }; in_quotes = false; setting = settings.PutEnabled q.put_enabled } ∷ record { clause = record { key = keys.TrigData; value = Some q.trigger_data }; in_quotes = true; setting = settings.TriggerData q.trigger_data } ∷ record { clause = record { key = keys.TrigDpth; value = Some (decimal q.trigger_depth) }; in_quotes = false; setting = settings.TriggerDepth q.trigger_depth } ∷ trigger_clause t ∷ record { clause = record { key = keys.TrigMPri; value = Some (decimal q.trigger_priority) }; in_quotes = false; setting = settings.TriggerPriority q.trigger_priority } ∷ record { clause = record { key = keys.TrigType; value = Some (texts.trigger_word q.trigger_type) }; in_quotes = false; setting = settings.TriggerType q.trigger_type } ∷ record { clause = record { key = keys.Usage; value = Some (texts.usage_word q.usage) }; in_quotes = false; setting = settings.Usage q.usage } ∷ []
 
-local_by_off : (b : ℕ) (bs : List ℕ) (q : LocalQueue) (ks : List KeptAttribute) (k : AreKeptTexts (kept_keys kinds.Local) ks) → IsName 48 (b ∷ bs) → IsLocalText q → change_in Sets (change_text (changes.Set (objects.Local (record q { name = b ∷ bs; kept = ks; trigger = false })))) ≡ Some (changes.Set (objects.Local (record q { name = b ∷ bs; kept = ks; trigger = false })))
-local_by_off b bs q ks k name h =
-    ap (change_in Sets) (ap (λ (t : List ℕ). codes "DEFINE QLOCAL(" ++ t) (define_same (b ∷ bs) (texts.local_attributes (record q { name = b ∷ bs; kept = ks; trigger = false })) ks (local_clauses_off q) (kept_clauses (kept_keys kinds.Local) ks k) (refl, (refl, (refl, (ap (λ (d : List ℕ). codes " " ++ texts.in_brackets (codes "INITQ") (codes "'" ++ d ++ codes "'")) (doubled_same q.initiation_queue), (refl, (refl, (refl, (ap (λ (d : List ℕ). codes " " ++ texts.in_brackets (codes "PROCESS") (codes "'" ++ d ++ codes "'")) (doubled_same q.process), (refl, (ap (λ (d : List ℕ). codes " " ++ texts.in_brackets (codes "TRIGDATA") (codes "'" ++ d ++ codes "'")) (doubled_same q.trigger_data), (refl, (refl, (refl, (refl, (refl, tt))))))))))))))) (kept_text verbs.Define kinds.Local (kept_keys kinds.Local) ks k local_kept)))
-    ∙ define_keeps (subjects.Local (b ∷ bs)) nouns.Local kinds.Local 48 b bs (local_clauses_off q) (kept_keys kinds.Local) ks k name (ap (λ r. option_map subjects.Local (reads.name_or_none r)) (name_read 48 b bs name)) ((tokens.Quoted (b ∷ bs), refl, refl), name_unblank 48 b bs name) (local_can_off b bs q h) (record { table = local_kept; is_kind = refl; needed = tt; clear = refl; replace = refl; noreplace = refl })
-    ∙ ap (λ (o : Object). Some (changes.Set o)) (local_keeps (kept_keys kinds.Local) ks (record q { name = b ∷ bs; kept = []; trigger = false }) k refl)
+local_written : (t : Bool) (q : LocalQueue) → IsLocalText q → AreWritten verbs.Define kinds.Local (local_clauses t q)
+local_written t q h = (number_written verbs.Define kinds.Local keys.DefPrty 0 9 q.default_priority settings.DefaultPriority (record { known = refl; word = (refl, refl); whole = refl }) refl (omega arith) h.default_priority (below q.default_priority 9 h.default_priority (omega arith)), (word_written verbs.Define kinds.Local keys.DefPsist (texts.yes_or_no q.default_persistent) (settings.DefaultPersistent q.default_persistent) (record { known = refl; word = (refl, refl); whole = refl }) (yes_word q.default_persistent).well (yes_word q.default_persistent).whole (ap (reads.set_to settings.DefaultPersistent) (yes_given q.default_persistent)), (word_written verbs.Define kinds.Local keys.Get (texts.enabled_or_not q.get_enabled) (settings.GetEnabled q.get_enabled) (record { known = refl; word = (refl, refl); whole = refl }) (enabled_word q.get_enabled).well (enabled_word q.get_enabled).whole (ap (reads.set_to settings.GetEnabled) (enabled_given q.get_enabled)), (name_written verbs.Define kinds.Local keys.InitQ q.initiation_queue settings.InitiationQueue (record { known = refl; word = (refl, refl); whole = refl }) refl h.initiation_queue, (number_written verbs.Define kinds.Local keys.MaxDepth 0 999999999 q.max_depth settings.MaxDepth (record { known = refl; word = (refl, refl); whole = refl }) refl (omega arith) h.max_depth (below q.max_depth 999999999 h.max_depth (omega arith)), (number_written verbs.Define kinds.Local keys.MaxMsgL 0 4194304 q.max_message_length settings.MaxMessageLength (record { known = refl; word = (refl, refl); whole = refl }) refl (omega arith) h.max_message_length (below q.max_message_length 4194304 h.max_message_length (omega arith)), (word_written verbs.Define kinds.Local keys.MsgDlvSq (texts.delivery_word q.delivery) (settings.Delivery q.delivery) (record { known = refl; word = (refl, refl); whole = refl }) (delivery_word q.delivery).well (delivery_word q.delivery).whole (ap (reads.set_to settings.Delivery) (delivery_given q.delivery)), (name_written verbs.Define kinds.Local keys.Process q.process settings.Process (record { known = refl; word = (refl, refl); whole = refl }) refl h.process, (word_written verbs.Define kinds.Local keys.Put (texts.enabled_or_not q.put_enabled) (settings.PutEnabled q.put_enabled) (record { known = refl; word = (refl, refl); whole = refl }) (enabled_word q.put_enabled).well (enabled_word q.put_enabled).whole (ap (reads.set_to settings.PutEnabled) (enabled_given q.put_enabled)), (text_written verbs.Define kinds.Local keys.TrigData 64 q.trigger_data settings.TriggerData (record { known = refl; word = (refl, refl); whole = refl }) refl h.trigger_data.0 h.trigger_data.1, (number_written verbs.Define kinds.Local keys.TrigDpth 1 999999999 q.trigger_depth settings.TriggerDepth (record { known = refl; word = (refl, refl); whole = refl }) refl h.trigger_depth.0 h.trigger_depth.1 (below q.trigger_depth 999999999 h.trigger_depth.1 (omega arith)), (trigger_written t, (number_written verbs.Define kinds.Local keys.TrigMPri 0 9 q.trigger_priority settings.TriggerPriority (record { known = refl; word = (refl, refl); whole = refl }) refl (omega arith) h.trigger_priority (below q.trigger_priority 9 h.trigger_priority (omega arith)), (word_written verbs.Define kinds.Local keys.TrigType (texts.trigger_word q.trigger_type) (settings.TriggerType q.trigger_type) (record { known = refl; word = (refl, refl); whole = refl }) (trigger_word q.trigger_type).well (trigger_word q.trigger_type).whole (ap (reads.set_to settings.TriggerType) (trigger_given q.trigger_type)), (word_written verbs.Define kinds.Local keys.Usage (texts.usage_word q.usage) (settings.Usage q.usage) (record { known = refl; word = (refl, refl); whole = refl }) (usage_word q.usage).well (usage_word q.usage).whole (ap (reads.set_to settings.Usage) (usage_given q.usage)), tt)))))))))))))))
+
+local_can : (t : Bool) (b : ℕ) (bs : List ℕ) (q : LocalQueue) → IsLocalText q → CanDefine (subjects.Local (b ∷ bs)) nouns.Local kinds.Local (local_clauses t q)
+local_can true b bs q h = can_define (subjects.Local (b ∷ bs)) nouns.Local kinds.Local (local_clauses true q) refl (local_written true q h) tt refl (refl, refl) refl (refl, refl) refl refl refl refl
+local_can false b bs q h = can_define (subjects.Local (b ∷ bs)) nouns.Local kinds.Local (local_clauses false q) refl (local_written false q h) tt refl (refl, refl) refl (refl, refl) refl refl refl refl
+
+local_may_keep : (t : Bool) (q : LocalQueue) (ks : List KeptAttribute) (k : AreKeptTexts (kept_keys kinds.Local) ks) → CanKeep nouns.Local kinds.Local (local_clauses t q) (kept_clauses (kept_keys kinds.Local) ks k) (kept_keys kinds.Local)
+local_may_keep true q ks k = record { table = local_kept; is_kind = refl; needed = tt; clear = refl; replace = refl; noreplace = refl }
+local_may_keep false q ks k = record { table = local_kept; is_kind = refl; needed = tt; clear = refl; replace = refl; noreplace = refl }
+
+local_by : (t : Bool) (b : ℕ) (bs : List ℕ) (q : LocalQueue) (ks : List KeptAttribute) (k : AreKeptTexts (kept_keys kinds.Local) ks) → IsName 48 (b ∷ bs) → IsLocalText q → change_in Sets (change_text (changes.Set (objects.Local (record q { name = b ∷ bs; kept = ks; trigger = t })))) ≡ Some (changes.Set (objects.Local (record q { name = b ∷ bs; kept = ks; trigger = t })))
+local_by t b bs q ks k name h =
+    ap (change_in Sets) (ap (λ (t : List ℕ). codes "DEFINE QLOCAL(" ++ t) (define_same (b ∷ bs) (texts.local_attributes (record q { name = b ∷ bs; kept = ks; trigger = t })) ks (local_clauses t q) (kept_clauses (kept_keys kinds.Local) ks k) (refl, (refl, (refl, (ap (λ (d : List ℕ). codes " " ++ texts.in_brackets (codes "INITQ") (codes "'" ++ d ++ codes "'")) (doubled_same q.initiation_queue), (refl, (refl, (refl, (ap (λ (d : List ℕ). codes " " ++ texts.in_brackets (codes "PROCESS") (codes "'" ++ d ++ codes "'")) (doubled_same q.process), (refl, (ap (λ (d : List ℕ). codes " " ++ texts.in_brackets (codes "TRIGDATA") (codes "'" ++ d ++ codes "'")) (doubled_same q.trigger_data), (refl, (trigger_same t, (refl, (refl, (refl, tt))))))))))))))) (kept_text verbs.Define kinds.Local (kept_keys kinds.Local) ks k local_kept)))
+    ∙ define_keeps (subjects.Local (b ∷ bs)) nouns.Local kinds.Local 48 b bs (local_clauses t q) (kept_keys kinds.Local) ks k name (ap (λ r. option_map subjects.Local (reads.name_or_none r)) (name_read 48 b bs name)) ((tokens.Quoted (b ∷ bs), refl, refl), name_unblank 48 b bs name) (local_can t b bs q h) (local_may_keep t q ks k)
+    ∙ ap (λ (o : Object). Some (changes.Set o)) (local_keeps (kept_keys kinds.Local) ks (record q { name = b ∷ bs; kept = []; trigger = t }) k refl)
 
 alias_named : (n : List ℕ) (q : AliasQueue) → IsName 48 n → 0 < length n → IsAliasText q → change_in Sets (change_text (changes.Set (objects.Alias (record q { name = n })))) ≡ Some (changes.Set (objects.Alias (record q { name = n })))
 alias_named [] q name some h = absurd (omega (arith, some))
@@ -296,8 +284,7 @@ remote_read q h = remote_named q.name q h.name h.some h
 
 local_named : (n : List ℕ) (t : Bool) (q : LocalQueue) → IsName 48 n → 0 < length n → IsLocalText q → change_in Sets (change_text (changes.Set (objects.Local (record q { name = n; trigger = t })))) ≡ Some (changes.Set (objects.Local (record q { name = n; trigger = t })))
 local_named [] t q name some h = absurd (omega (arith, some))
-local_named (b ∷ bs) true q name some h = local_by_on b bs q q.kept h.kept_are name h
-local_named (b ∷ bs) false q name some h = local_by_off b bs q q.kept h.kept_are name h
+local_named (b ∷ bs) t q name some h = local_by t b bs q q.kept h.kept_are name h
 
 pub local_read : (q : LocalQueue) → IsLocalText q → change_in Sets (change_text (changes.Set (objects.Local q))) ≡ Some (changes.Set (objects.Local q))
 local_read q h = local_named q.name q.trigger q h.name h.some h
@@ -306,20 +293,8 @@ abbrev process_clauses : Process → List Written
 process_clauses q = record { clause = record { key = keys.ApplicId; value = Some q.appl_id }; in_quotes = true; setting = settings.ApplId q.appl_id } ∷ record { clause = record { key = keys.ApplType; value = Some (decimal q.appl_type) }; in_quotes = false; setting = settings.ApplType q.appl_type } ∷ record { clause = record { key = keys.EnvrData; value = Some q.environment_data }; in_quotes = true; setting = settings.EnvironmentData q.environment_data } ∷ record { clause = record { key = keys.UserData; value = Some q.user_data }; in_quotes = true; setting = settings.UserData q.user_data } ∷ []
 
 process_can : (b : ℕ) (bs : List ℕ) (q : Process) → IsProcessText q → CanDefine (subjects.Process (b ∷ bs)) nouns.Process kinds.Process (process_clauses q)
-process_can b bs q h = record {
-  goes = refl;
-  is_kind = refl;
-  written = (text_written verbs.Define kinds.Process keys.ApplicId 256 q.appl_id settings.ApplId (record { known = refl; word = (refl, refl); whole = refl }) refl h.appl_id.0 h.appl_id.1, (appl_written q.appl_type (record { known = refl; word = (refl, refl); whole = refl }) h.appl_type, (text_written verbs.Define kinds.Process keys.EnvrData 128 q.environment_data settings.EnvironmentData (record { known = refl; word = (refl, refl); whole = refl }) refl h.environment_data.0 h.environment_data.1, (text_written verbs.Define kinds.Process keys.UserData 128 q.user_data settings.UserData (record { known = refl; word = (refl, refl); whole = refl }) refl h.user_data.0 h.user_data.1, tt))));
-  single = keys_apart (map group_of (keys_of (clauses_of (process_clauses q)))) refl;
-  needed = tt;
-  replace = none_any (λ (c : Clause). bytes_eq (key_text c.key) (codes "REPLACE")) (clauses_of (process_clauses q)) refl;
-  noreplace = none_any (λ (c : Clause). bytes_eq (key_text c.key) (codes "NOREPLACE")) (clauses_of (process_clauses q)) refl;
-  word = (refl, refl);
-  one_line = refl;
-  apart = refl;
-  noapart = refl;
-  all = refl;
-}
+process_can b bs q h =
+    can_define (subjects.Process (b ∷ bs)) nouns.Process kinds.Process (process_clauses q) refl (text_written verbs.Define kinds.Process keys.ApplicId 256 q.appl_id settings.ApplId (record { known = refl; word = (refl, refl); whole = refl }) refl h.appl_id.0 h.appl_id.1, (appl_written q.appl_type (record { known = refl; word = (refl, refl); whole = refl }) h.appl_type, (text_written verbs.Define kinds.Process keys.EnvrData 128 q.environment_data settings.EnvironmentData (record { known = refl; word = (refl, refl); whole = refl }) refl h.environment_data.0 h.environment_data.1, (text_written verbs.Define kinds.Process keys.UserData 128 q.user_data settings.UserData (record { known = refl; word = (refl, refl); whole = refl }) refl h.user_data.0 h.user_data.1, tt)))) tt refl (refl, refl) refl (refl, refl) refl refl refl refl
 
 process_by : (b : ℕ) (bs : List ℕ) (q : Process) (ks : List KeptAttribute) (k : AreKeptTexts (kept_keys kinds.Process) ks) → IsName 48 (b ∷ bs) → IsProcessText q → change_in Sets (change_text (changes.Set (objects.Process (record q { name = b ∷ bs; kept = ks })))) ≡ Some (changes.Set (objects.Process (record q { name = b ∷ bs; kept = ks })))
 process_by b bs q ks k name h =
@@ -340,20 +315,8 @@ abbrev sender_clauses : ℕ → ℕ → ℕ → List ℕ → Bool → List Writt
 sender_clauses batch retry wrap xmitq fast = record { clause = record { key = keys.ChlType; value = Some (codes "SDR") }; in_quotes = false; setting = settings.ChannelType types.Sender } ∷ record { clause = record { key = keys.BatchSz; value = Some (decimal batch) }; in_quotes = false; setting = settings.BatchSize batch } ∷ record { clause = record { key = keys.SeqWrap; value = Some (decimal wrap) }; in_quotes = false; setting = settings.SequenceWrap wrap } ∷ record { clause = record { key = keys.ShortRty; value = Some (decimal retry) }; in_quotes = false; setting = settings.ShortRetry retry } ∷ record { clause = record { key = keys.XmitQ; value = Some xmitq }; in_quotes = true; setting = settings.TransmissionQueue xmitq } ∷ record { clause = record { key = keys.NpmSpeed; value = Some (texts.speed_word fast) }; in_quotes = false; setting = settings.Fast fast } ∷ []
 
 sender_can : (b : ℕ) (bs : List ℕ) (batch retry wrap : ℕ) (xmitq : List ℕ) (fast : Bool) → IsSenderText batch retry wrap xmitq → CanDefine (subjects.Channel (b ∷ bs)) nouns.Channel kinds.Sender (sender_clauses batch retry wrap xmitq fast)
-sender_can b bs batch retry wrap xmitq fast h = record {
-  goes = refl;
-  is_kind = inl refl;
-  written = (word_written verbs.Define kinds.Sender keys.ChlType (codes "SDR") (settings.ChannelType types.Sender) (record { known = refl; word = (refl, refl); whole = refl }) (refl, refl) refl refl, (number_written verbs.Define kinds.Sender keys.BatchSz 1 9999 batch settings.BatchSize (record { known = refl; word = (refl, refl); whole = refl }) refl h.batch.0 h.batch.1 (below batch 9999 h.batch.1 (omega arith)), (number_written verbs.Define kinds.Sender keys.SeqWrap 100 999999999 wrap settings.SequenceWrap (record { known = refl; word = (refl, refl); whole = refl }) refl h.wrap.0 h.wrap.1 (below wrap 999999999 h.wrap.1 (omega arith)), (number_written verbs.Define kinds.Sender keys.ShortRty 0 999999999 retry settings.ShortRetry (record { known = refl; word = (refl, refl); whole = refl }) refl (omega arith) h.retry (below retry 999999999 h.retry (omega arith)), (name_written verbs.Define kinds.Sender keys.XmitQ xmitq settings.TransmissionQueue (record { known = refl; word = (refl, refl); whole = refl }) refl h.xmitq, (word_written verbs.Define kinds.Sender keys.NpmSpeed (texts.speed_word fast) (settings.Fast fast) (record { known = refl; word = (refl, refl); whole = refl }) (speed_word fast).well (speed_word fast).whole (ap (reads.set_to settings.Fast) (speed_given fast)), tt))))));
-  single = keys_apart (map group_of (keys_of (clauses_of (sender_clauses batch retry wrap xmitq fast)))) refl;
-  needed = key_there keys.XmitQ (keys_of (clauses_of (sender_clauses batch retry wrap xmitq fast))) refl;
-  replace = none_any (λ (c : Clause). bytes_eq (key_text c.key) (codes "REPLACE")) (clauses_of (sender_clauses batch retry wrap xmitq fast)) refl;
-  noreplace = none_any (λ (c : Clause). bytes_eq (key_text c.key) (codes "NOREPLACE")) (clauses_of (sender_clauses batch retry wrap xmitq fast)) refl;
-  word = (refl, refl);
-  one_line = refl;
-  apart = refl;
-  noapart = refl;
-  all = refl;
-}
+sender_can b bs batch retry wrap xmitq fast h =
+    can_define (subjects.Channel (b ∷ bs)) nouns.Channel kinds.Sender (sender_clauses batch retry wrap xmitq fast) (inl refl) (word_written verbs.Define kinds.Sender keys.ChlType (codes "SDR") (settings.ChannelType types.Sender) (record { known = refl; word = (refl, refl); whole = refl }) (refl, refl) refl refl, (number_written verbs.Define kinds.Sender keys.BatchSz 1 9999 batch settings.BatchSize (record { known = refl; word = (refl, refl); whole = refl }) refl h.batch.0 h.batch.1 (below batch 9999 h.batch.1 (omega arith)), (number_written verbs.Define kinds.Sender keys.SeqWrap 100 999999999 wrap settings.SequenceWrap (record { known = refl; word = (refl, refl); whole = refl }) refl h.wrap.0 h.wrap.1 (below wrap 999999999 h.wrap.1 (omega arith)), (number_written verbs.Define kinds.Sender keys.ShortRty 0 999999999 retry settings.ShortRetry (record { known = refl; word = (refl, refl); whole = refl }) refl (omega arith) h.retry (below retry 999999999 h.retry (omega arith)), (name_written verbs.Define kinds.Sender keys.XmitQ xmitq settings.TransmissionQueue (record { known = refl; word = (refl, refl); whole = refl }) refl h.xmitq, (word_written verbs.Define kinds.Sender keys.NpmSpeed (texts.speed_word fast) (settings.Fast fast) (record { known = refl; word = (refl, refl); whole = refl }) (speed_word fast).well (speed_word fast).whole (ap (reads.set_to settings.Fast) (speed_given fast)), tt)))))) (key_there keys.XmitQ (keys_of (clauses_of (sender_clauses batch retry wrap xmitq fast))) refl) refl (refl, refl) refl (refl, refl) refl refl refl refl
 
 sender_by : (b : ℕ) (bs : List ℕ) (batch retry wrap : ℕ) (xmitq : List ℕ) (fast : Bool) (ks : List KeptAttribute) (k : AreKeptTexts (kept_keys kinds.Channel) ks) → IsName 20 (b ∷ bs) → IsSenderText batch retry wrap xmitq → change_in Sets (change_text (changes.Set (objects.Channel (record { name = b ∷ bs; kind = channels.Sender batch retry xmitq; sequence_wrap = wrap; fast = fast; kept = ks })))) ≡ Some (changes.Set (objects.Channel (record { name = b ∷ bs; kind = channels.Sender batch retry xmitq; sequence_wrap = wrap; fast = fast; kept = ks })))
 sender_by b bs batch retry wrap xmitq fast ks k name h =
@@ -365,20 +328,8 @@ abbrev receiver_clauses : ℕ → Bool → Bool → List Written
 receiver_clauses wrap dead fast = record { clause = record { key = keys.ChlType; value = Some (codes "RCVR") }; in_quotes = false; setting = settings.ChannelType types.Receiver } ∷ record { clause = record { key = keys.UseDlq; value = Some (texts.yes_or_no dead) }; in_quotes = false; setting = settings.UseDeadLetterQueue dead } ∷ record { clause = record { key = keys.SeqWrap; value = Some (decimal wrap) }; in_quotes = false; setting = settings.SequenceWrap wrap } ∷ record { clause = record { key = keys.NpmSpeed; value = Some (texts.speed_word fast) }; in_quotes = false; setting = settings.Fast fast } ∷ []
 
 receiver_can : (b : ℕ) (bs : List ℕ) (wrap : ℕ) (dead fast : Bool) → IsReceiverText wrap → CanDefine (subjects.Channel (b ∷ bs)) nouns.Channel kinds.Receiver (receiver_clauses wrap dead fast)
-receiver_can b bs wrap dead fast h = record {
-  goes = refl;
-  is_kind = inl refl;
-  written = (word_written verbs.Define kinds.Receiver keys.ChlType (codes "RCVR") (settings.ChannelType types.Receiver) (record { known = refl; word = (refl, refl); whole = refl }) (refl, refl) refl refl, (word_written verbs.Define kinds.Receiver keys.UseDlq (texts.yes_or_no dead) (settings.UseDeadLetterQueue dead) (record { known = refl; word = (refl, refl); whole = refl }) (yes_word dead).well (yes_word dead).whole (ap (reads.set_to settings.UseDeadLetterQueue) (yes_given dead)), (number_written verbs.Define kinds.Receiver keys.SeqWrap 100 999999999 wrap settings.SequenceWrap (record { known = refl; word = (refl, refl); whole = refl }) refl h.wrap.0 h.wrap.1 (below wrap 999999999 h.wrap.1 (omega arith)), (word_written verbs.Define kinds.Receiver keys.NpmSpeed (texts.speed_word fast) (settings.Fast fast) (record { known = refl; word = (refl, refl); whole = refl }) (speed_word fast).well (speed_word fast).whole (ap (reads.set_to settings.Fast) (speed_given fast)), tt))));
-  single = keys_apart (map group_of (keys_of (clauses_of (receiver_clauses wrap dead fast)))) refl;
-  needed = tt;
-  replace = none_any (λ (c : Clause). bytes_eq (key_text c.key) (codes "REPLACE")) (clauses_of (receiver_clauses wrap dead fast)) refl;
-  noreplace = none_any (λ (c : Clause). bytes_eq (key_text c.key) (codes "NOREPLACE")) (clauses_of (receiver_clauses wrap dead fast)) refl;
-  word = (refl, refl);
-  one_line = refl;
-  apart = refl;
-  noapart = refl;
-  all = refl;
-}
+receiver_can b bs wrap dead fast h =
+    can_define (subjects.Channel (b ∷ bs)) nouns.Channel kinds.Receiver (receiver_clauses wrap dead fast) (inl refl) (word_written verbs.Define kinds.Receiver keys.ChlType (codes "RCVR") (settings.ChannelType types.Receiver) (record { known = refl; word = (refl, refl); whole = refl }) (refl, refl) refl refl, (word_written verbs.Define kinds.Receiver keys.UseDlq (texts.yes_or_no dead) (settings.UseDeadLetterQueue dead) (record { known = refl; word = (refl, refl); whole = refl }) (yes_word dead).well (yes_word dead).whole (ap (reads.set_to settings.UseDeadLetterQueue) (yes_given dead)), (number_written verbs.Define kinds.Receiver keys.SeqWrap 100 999999999 wrap settings.SequenceWrap (record { known = refl; word = (refl, refl); whole = refl }) refl h.wrap.0 h.wrap.1 (below wrap 999999999 h.wrap.1 (omega arith)), (word_written verbs.Define kinds.Receiver keys.NpmSpeed (texts.speed_word fast) (settings.Fast fast) (record { known = refl; word = (refl, refl); whole = refl }) (speed_word fast).well (speed_word fast).whole (ap (reads.set_to settings.Fast) (speed_given fast)), tt)))) tt refl (refl, refl) refl (refl, refl) refl refl refl refl
 
 receiver_by : (b : ℕ) (bs : List ℕ) (wrap : ℕ) (dead fast : Bool) (ks : List KeptAttribute) (k : AreKeptTexts (kept_keys kinds.Channel) ks) → IsName 20 (b ∷ bs) → IsReceiverText wrap → change_in Sets (change_text (changes.Set (objects.Channel (record { name = b ∷ bs; kind = channels.Receiver dead; sequence_wrap = wrap; fast = fast; kept = ks })))) ≡ Some (changes.Set (objects.Channel (record { name = b ∷ bs; kind = channels.Receiver dead; sequence_wrap = wrap; fast = fast; kept = ks })))
 receiver_by b bs wrap dead fast ks k name h =

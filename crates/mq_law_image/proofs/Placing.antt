@@ -20,11 +20,11 @@ use Rattle.mq_calls.specs.Changes.{selects, less_ident, off_lists}
 use Rattle.mq_calls.specs.declared.image.Image.{Image}
 use Rattle.mq_calls.specs.declared.image.Shelf.{Shelf}
 use Rattle.mq_calls.specs.Recovery.{listed, IsKnown}
-use Rattle.mq_spec_log.specs.Applies.{fits, fits_local, can_add_all, can_add, stands_on, was_given}
-use Rattle.mq_spec_log.specs.Shelves.{shelf_in, without_ident, cleared, added, added_all, removed, removed_all}
-use Rattle.mq_law_manager.specs.Facts.{Mem}
-use Rattle.mq_law_manager.proofs.Lists.{ident_self, mem_keep}
-use Rattle.mq_law_manager.proofs.Named.{doubt_less}
+use Rattle.mq_law_log.specs.from_spec_log.Applies.{fits, fits_local, can_add_all, can_add, stands_on, was_given}
+use Rattle.mq_law_log.specs.from_spec_log.Shelves.{shelf_in, without_ident, cleared, added, added_all, removed, removed_all}
+use Rattle.mq_law_log.specs.from_law_manager.Facts.{Mem}
+use Rattle.mq_law_log.proofs.from_law_manager.Lists.{same_self, mem_keep}
+use Rattle.mq_law_log.proofs.from_law_manager.Named.{doubt_less}
 use Rattle.mq_law_image.specs.SoFar.{sight, IsSoFar, ArePersistent}
 use Rattle.mq_law_image.proofs.Members.{both, on_all_mem, on_all_names, shelf_there}
 use Rattle.mq_law_image.proofs.Rowing.{kept_on, kept_shelved, placed_on, placed_shelved}
@@ -35,7 +35,7 @@ use Rattle.mq_law_image.proofs.Naming.{shelf_names, set_shelf_names, add_there, 
 -- An ident goes
 
 not_has : (ident : Ident) (row : Row) → not (has_ident ident row) ≡ true → ident ≢ row.message.ident
-not_has ident row e w = cc (e, ap (λ (i : Ident). not (same_ident row.message.ident i)) w ∙ ap not (ident_self row.message.ident))
+not_has ident row e w = cc (e, ap (λ (i : Ident). not (same_ident row.message.ident i)) w ∙ ap not (same_self row.message.ident))
 
 pub cleared_so_far : (number : ℕ) (ident : Ident) (i : Image) → IsSoFar number i → IsSoFar number (cleared ident i)
 cleared_so_far number ident i h = record {

@@ -6,11 +6,11 @@ use Rattle.mq_objects.specs.declared.change.ObjectChange.{ObjectChange}
 use Rattle.mq_objects.specs.declared.change.ObjectChange.TheVariants as changes
 use Rattle.mq_calls.specs.declared.records.LogRecord.{LogRecord}
 use Rattle.mq_calls.specs.declared.records.LogRecord.TheVariants as records
-use Rattle.mq_record.specs.Records.{record_bytes, operation_of}
+use Rattle.mq_law_log.specs.from_record.Records.{record_bytes, operation_of}
 use Rattle.mq_calls.specs.Sizes.{change_text}
-use Rattle.mq_spec_log.specs.Texts.{change_in}
-use Rattle.mq_spec_log.specs.Bodies.{record_of}
-use Rattle.mq_spec_log.proofs.BodyLaws.{record_back}
+use Rattle.mq_law_log.specs.from_spec_log.Texts.{change_in}
+use Rattle.mq_law_log.specs.from_spec_log.Bodies.{record_of}
+use Rattle.mq_law_log.proofs.from_spec_log.BodyLaws.{record_back}
 use Rattle.mq_law_image.specs.Values.{IsChangeText, IsReadable}
 use Rattle.mq_law_image.proofs.Deleting.{delete_read}
 use Rattle.mq_law_image.proofs.Recording.{objects_back}

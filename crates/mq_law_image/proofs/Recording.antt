@@ -4,13 +4,13 @@ use Rattle.std.specs.Prelude.{Some}
 use Rattle.std.proofs.lemmas.List.{append-nil}
 use Rattle.mq_objects.specs.declared.change.ObjectChange.{ObjectChange}
 use Rattle.mq_calls.specs.declared.records.LogRecord.TheVariants as records
-use Rattle.mq_record.specs.declared.record.WrittenRecord.TheVariants as written
-use Rattle.mq_record.specs.Records.{record_bytes, operation_of}
-use Rattle.mq_record.specs.Reading.{record_at}
-use Rattle.mq_record.proofs.KindLaws.{record_again}
+use Rattle.mq_law_log.specs.from_record.WrittenRecordVariants as written
+use Rattle.mq_law_log.specs.from_record.Records.{record_bytes, operation_of}
+use Rattle.mq_law_log.specs.from_record.Reading.{record_at}
+use Rattle.mq_law_log.proofs.from_record.KindLaws.{record_again}
 use Rattle.mq_calls.specs.Sizes.{change_text}
-use Rattle.mq_spec_log.specs.Texts.{change_in}
-use Rattle.mq_spec_log.specs.Bodies.{changing, meaning_of, record_of}
+use Rattle.mq_law_log.specs.from_spec_log.Texts.{change_in}
+use Rattle.mq_law_log.specs.from_spec_log.Bodies.{changing, meaning_of, record_of}
 
 pub objects_back : (change : ObjectChange) → length (change_text change) < 2 ^ 32 → change_in (operation_of change) (change_text change) ≡ Some change → record_of (record_bytes (records.Objects change)) ≡ Some (records.Objects change)
 unfolding record_of

@@ -26,11 +26,11 @@ use Rattle.mq_calls.specs.Changes.{selects, set_sender}
 use Rattle.mq_calls.specs.declared.image.Image.{Image}
 use Rattle.mq_calls.specs.declared.image.Shelf.{Shelf}
 use Rattle.mq_calls.specs.Recovery.{IsReceiverSide, IsKnown, IsDoubtKnown}
-use Rattle.mq_spec_log.specs.Applies.{Start, applies, suits, was_given, idents_in, is_in_bounds, can_add, can_add_all, can_remove, can_remove_all, can_prepare, can_receive, is_unit, are_distinct, is_held_among, is_elsewhere, is_above, fits, stands_on}
-use Rattle.mq_spec_log.specs.Records.{doing, settled_rows}
-use Rattle.mq_spec_log.specs.Shelves.{sender_at, receiver_at, with_sender, with_receiver, added, added_all, removed, removed_all, freed_row}
-use Rattle.mq_law_manager.specs.Facts.{Mem}
-use Rattle.mq_law_manager.proofs.Beginning.{all_mem}
+use Rattle.mq_law_log.specs.from_spec_log.Applies.{Start, applies, suits, was_given, idents_in, is_in_bounds, can_add, can_add_all, can_remove, can_remove_all, can_prepare, can_receive, is_unit, are_distinct, is_held_among, is_elsewhere, is_above, fits, stands_on}
+use Rattle.mq_law_log.specs.from_spec_log.Records.{doing, settled_rows}
+use Rattle.mq_law_log.specs.from_spec_log.Shelves.{sender_at, receiver_at, with_sender, with_receiver, added, added_all, removed, removed_all, freed_row}
+use Rattle.mq_law_log.specs.from_law_manager.Facts.{Mem}
+use Rattle.mq_law_log.proofs.from_law_manager.Beginning.{all_mem}
 use Rattle.mq_law_image.specs.SoFar.{Sight, sight, IsRowOf, IsSideOf, IsSoFar, IsKept}
 use Rattle.mq_law_image.proofs.Members.{both, none_any, all_all, on_all_names, sender_side, receiver_side, every}
 use Rattle.mq_law_image.proofs.Rowing.{seen_shelved, kept_on, kept_shelved, tagged_on, tagged_shelved}

@@ -16,11 +16,11 @@ use Rattle.mq_calls.specs.declared.records.LogRecord.{LogRecord}
 use Rattle.mq_calls.specs.declared.records.LogRecord.TheVariants as records
 use Rattle.mq_frame.specs.declared.fault.Miss.{Miss}
 use Rattle.mq_frame.specs.Reading.{IsBytes}
-use Rattle.mq_record.specs.declared.record.WrittenRecord.{WrittenRecord}
-use Rattle.mq_record.specs.declared.record.WrittenRecord.TheVariants as written
-use Rattle.mq_record.specs.Reading.{record_at}
-use Rattle.mq_record.specs.Records.{IsAdd, IsRecord, IsWritten}
-use Rattle.mq_record.proofs.KindLaws.{record_got}
+use Rattle.mq_law_log.specs.from_record.{WrittenRecord}
+use Rattle.mq_law_log.specs.from_record.WrittenRecordVariants as written
+use Rattle.mq_law_log.specs.from_record.Reading.{record_at}
+use Rattle.mq_law_log.specs.from_record.Records.{IsAdd, IsRecord, IsWritten}
+use Rattle.mq_law_log.proofs.from_record.KindLaws.{record_got}
 use Rattle.mq_log.specs.Bodies.{frame}
 use Rattle.mq_calls.specs.State.{Given}
 use Rattle.mq_calls.specs.declared.state.SenderSide.{SenderSide}
@@ -30,14 +30,14 @@ use Rattle.mq_calls.specs.Changes.{comes_before}
 use Rattle.mq_calls.specs.declared.image.Image.{Image}
 use Rattle.mq_calls.specs.declared.image.Shelf.{Shelf}
 use Rattle.mq_calls.specs.Recovery.{IsImage, IsShelf, IsLasting, IsHeldWell, IsOfDoubt, AreApart, IsSenderSide, IsReceiverSide, IsKnown, IsDoubtKnown, AreKnown, listed}
-use Rattle.mq_spec_log.specs.Applies.{Start, applies}
-use Rattle.mq_spec_log.specs.Bodies.{changing, meaning, meaning_of, record_of, behind, or_place, image_from, begins, image, empty_image}
-use Rattle.mq_spec_log.specs.Texts.{change_in}
-use Rattle.mq_spec_log.specs.Records.{doing}
-use Rattle.mq_law_manager.specs.Facts.{Mem, Chain, ident_of}
-use Rattle.mq_law_manager.proofs.Lists.{bool_case, ident_no}
-use Rattle.mq_law_manager.proofs.Named.{name_self}
-use Rattle.mq_law_manager.proofs.Routes.{side_found}
+use Rattle.mq_law_log.specs.from_spec_log.Applies.{Start, applies}
+use Rattle.mq_law_log.specs.from_spec_log.Bodies.{changing, meaning, meaning_of, record_of, behind, or_place, image_from, begins, image, empty_image}
+use Rattle.mq_law_log.specs.from_spec_log.Texts.{change_in}
+use Rattle.mq_law_log.specs.from_spec_log.Records.{doing}
+use Rattle.mq_law_log.specs.from_law_manager.Facts.{Mem, Chain, ident_of}
+use Rattle.mq_law_log.proofs.from_law_manager.Lists.{bool_case, ident_no}
+use Rattle.mq_law_log.proofs.from_law_manager.Named.{name_self}
+use Rattle.mq_law_log.proofs.from_law_manager.Routes.{side_found}
 use Rattle.mq_law_image.specs.SoFar.{sight, IsHeldIn, IsRowOf, IsSoFar, ArePersistent, IsKept}
 use Rattle.mq_law_image.proofs.Members.{every, all_pairs, chain_implied}
 use Rattle.mq_law_image.proofs.Naming.{shelves_named}

@@ -13,10 +13,10 @@ use Rattle.mq_calls.specs.Changes.{lane_of, new_row}
 use Rattle.mq_calls.specs.Images.{uncounted_message}
 use Rattle.mq_calls.specs.declared.image.Shelf.{Shelf}
 use Rattle.mq_calls.specs.Recovery.{listed, routes, IsKnown}
-use Rattle.mq_spec_log.specs.Shelves.{shelf_in, set_shelf, on_all, shelved_in}
-use Rattle.mq_spec_log.specs.Applies.{agrees, fits, fits_local}
-use Rattle.mq_law_manager.specs.Facts.{Mem, Differ, ident_of, AreLaned}
-use Rattle.mq_law_manager.proofs.Lists.{mem_insert, mem_keep, mem_retag, differ_insert, differ_keep, differ_retag}
+use Rattle.mq_law_log.specs.from_spec_log.Shelves.{shelf_in, set_shelf, on_all, shelved_in}
+use Rattle.mq_law_log.specs.from_spec_log.Applies.{agrees, fits, fits_local}
+use Rattle.mq_law_log.specs.from_law_manager.Facts.{Mem, Differ, ident_of, AreLaned}
+use Rattle.mq_law_log.proofs.from_law_manager.Lists.{mem_insert, mem_keep, mem_retag, differ_insert, differ_keep, differ_retag}
 use Rattle.mq_law_image.specs.SoFar.{Sight, IsRowOf, AreShelved}
 use Rattle.mq_law_image.proofs.Members.{laned_insert, laned_keep, laned_retag, on_all_mem, set_shelf_mem}
 

@@ -22,14 +22,14 @@ use Rattle.mq_calls.specs.Changes.{off_list, off_lists}
 use Rattle.mq_calls.specs.Images.{lasting}
 use Rattle.mq_calls.specs.declared.image.Image.{Image}
 use Rattle.mq_calls.specs.Steps.{Part, do_part, freeze, note_of, stands_in}
-use Rattle.mq_spec_manager.specs.Stops.{redone_if}
-use Rattle.mq_spec_log.specs.Applies.{applies, suits, was_given, idents_in, is_in_bounds}
-use Rattle.mq_spec_log.specs.Applies.Start.{First, Later}
-use Rattle.mq_spec_log.specs.Bodies.{record_of, behind, or_place, image_from, begins, image, empty_image}
-use Rattle.mq_spec_log.specs.Shelves.{sender_at, with_sender, added, added_all, removed, removed_all}
-use Rattle.mq_spec_log.specs.Records.{doing}
-use Rattle.mq_law_manager.specs.Facts.{Mem}
-use Rattle.mq_law_manager.proofs.Lists.{bool_case}
+use Rattle.mq_law_log.specs.from_spec_manager.Stops.{redone_if}
+use Rattle.mq_law_log.specs.from_spec_log.Applies.{applies, suits, was_given, idents_in, is_in_bounds}
+use Rattle.mq_law_log.specs.from_spec_log.Applies.Start.{First, Later}
+use Rattle.mq_law_log.specs.from_spec_log.Bodies.{record_of, behind, or_place, image_from, begins, image, empty_image}
+use Rattle.mq_law_log.specs.from_spec_log.Shelves.{sender_at, with_sender, added, added_all, removed, removed_all}
+use Rattle.mq_law_log.specs.from_spec_log.Records.{doing}
+use Rattle.mq_law_log.specs.from_law_manager.Facts.{Mem}
+use Rattle.mq_law_log.proofs.from_law_manager.Lists.{bool_case}
 use Rattle.mq_law_log.specs.Keeps.{Told, Keeps}
 use Rattle.mq_law_log.specs.Restarts.{IsHarmless}
 use Rattle.mq_law_image.specs.Bounds.{AreSessionsAtMost, new_session, session_of}

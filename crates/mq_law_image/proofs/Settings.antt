@@ -29,8 +29,8 @@ use Rattle.mq_sc_keys.specs.Values as reads
 use Rattle.mq_sc_keys.specs.Values.{given_of, set_to, number_value, number_or_none, name_value, name_or_none, are_blanks, text_value, kept_value, kept_flag, alone}
 use Rattle.mq_sc_grammar.specs.Spelling.{Clause}
 use Rattle.mq_sc_grammar.specs.Commands.{value_of, AreKnown, AreGiven, IsOnto}
-use Rattle.mq_law_manager.specs.Facts.{Mem}
-use Rattle.mq_law_manager.proofs.Lists.{bool_case}
+use Rattle.mq_law_log.specs.from_law_manager.Facts.{Mem}
+use Rattle.mq_law_log.proofs.from_law_manager.Lists.{bool_case}
 use Rattle.mq_law_image.specs.Laid.{is_no_end}
 use Rattle.mq_law_image.specs.Values.{kept_keys, IsKeptValue, IsOneLine, IsSettingText}
 use Rattle.mq_law_image.proofs.Members.{both, all_all}

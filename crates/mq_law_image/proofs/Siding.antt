@@ -26,11 +26,11 @@ use Rattle.mq_calls.specs.declared.state.ReceiverSide.{ReceiverSide}
 use Rattle.mq_calls.specs.Reads.{sender_in, in_doubt_of}
 use Rattle.mq_calls.specs.Changes.{comes_before, set_named, set_sender, set_receiver, less_ident, off_list, off_lists}
 use Rattle.mq_calls.specs.Recovery.{IsListed, listed, IsNumbered, IsDoubtOf, IsReceiverSide, IsKnown, IsDoubtKnown}
-use Rattle.mq_spec_log.specs.Applies.{are_distinct, is_unit}
-use Rattle.mq_law_manager.specs.Facts.{Mem, Chain, AreSorted}
-use Rattle.mq_law_manager.proofs.Lists.{bool_case, any_mem, mem_any, ident_no}
-use Rattle.mq_law_manager.proofs.Named.{name_is, sender_set}
-use Rattle.mq_law_manager.proofs.Routes.{before_trans, filter_mem, map_mem}
+use Rattle.mq_law_log.specs.from_spec_log.Applies.{are_distinct, is_unit}
+use Rattle.mq_law_log.specs.from_law_manager.Facts.{Mem, Chain, AreSorted}
+use Rattle.mq_law_log.proofs.from_law_manager.Lists.{bool_case, any_mem, mem_any, ident_no}
+use Rattle.mq_law_log.proofs.from_law_manager.Named.{name_is, sender_set}
+use Rattle.mq_law_log.proofs.from_law_manager.Routes.{before_trans, filter_mem, map_mem}
 use Rattle.mq_law_image.specs.SoFar.{Sight, IsHeldIn, IsRowOf, IsSideOf}
 use Rattle.mq_law_image.proofs.Members.{set_mem, both, all_pairs}
 

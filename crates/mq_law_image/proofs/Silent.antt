@@ -3,8 +3,8 @@ use Rattle.std.proofs.Common.{ℕ, List}
 use Rattle.mq_calls.specs.declared.agents.Note.{Note}
 use Rattle.mq_calls.specs.declared.agents.Note.TheVariants as notes
 use Rattle.mq_calls.specs.State.{Plain}
-use Rattle.mq_spec_manager.specs.Agents.{harden_part, harden}
-use Rattle.mq_law_manager.specs.Forced.{FitsCalls}
+use Rattle.mq_law_log.specs.from_spec_manager.Agents.{harden_part, harden}
+use Rattle.mq_law_log.specs.from_law_manager.Forced.{FitsCalls}
 use Rattle.mq_law_image.specs.Values.{IsMade, StepMakes}
 
 pub silent : FitsCalls IsMade

@@ -14,12 +14,12 @@ use Rattle.mq_calls.specs.Reads.{is_persistent, sender_in, in_doubt_of}
 use Rattle.mq_calls.specs.Images.{lasting, lasting_row, lasting_rows, rests_by, shelves_of, numbered, queue_on, begun, raised, uncounted_message}
 use Rattle.mq_calls.specs.declared.image.Image.{Image}
 use Rattle.mq_calls.specs.declared.image.Shelf.{Shelf}
-use Rattle.mq_spec_manager.specs.Stops.{first_start, started_record, started_need}
-use Rattle.mq_spec_log.specs.Applies.{Start, applies, is_in_bounds}
-use Rattle.mq_spec_log.specs.Records.{doing}
-use Rattle.mq_spec_log.specs.Bodies.{record_of, behind, or_place, is_started, image, empty_image}
-use Rattle.mq_spec_log.proofs.BodyLaws.{image_more}
-use Rattle.mq_law_manager.specs.Facts.{Mem}
+use Rattle.mq_law_log.specs.from_spec_manager.Stops.{first_start, started_record, started_need}
+use Rattle.mq_law_log.specs.from_spec_log.Applies.{Start, applies, is_in_bounds}
+use Rattle.mq_law_log.specs.from_spec_log.Records.{doing}
+use Rattle.mq_law_log.specs.from_spec_log.Bodies.{record_of, behind, or_place, is_started, image, empty_image}
+use Rattle.mq_law_log.proofs.from_spec_log.BodyLaws.{image_more}
+use Rattle.mq_law_log.specs.from_law_manager.Facts.{Mem}
 use Rattle.mq_law_image.specs.SoFar.{IsHeldIn, IsSoFar}
 use Rattle.mq_law_image.specs.Tells.{Tells}
 use Rattle.mq_law_image.proofs.Recovered.{image_so_far}

@@ -9,7 +9,7 @@ use Rattle.mq_calls.specs.declared.records.LogRecord.{LogRecord}
 use Rattle.mq_calls.specs.declared.records.LogRecord.TheVariants as records
 use Rattle.mq_calls.specs.declared.commands.RestartFault.{RestartFault}
 use Rattle.mq_calls.specs.declared.commands.RestartFault.TheVariants as faults
-use Rattle.mq_record.specs.Records.{record_bytes}
+use Rattle.mq_law_log.specs.from_record.Records.{record_bytes}
 use Rattle.mq_log.specs.Bodies.{frame}
 use Rattle.mq_calls.specs.State.{Plain, Given, Noted, Running, LogState}
 use Rattle.mq_calls.specs.State.Running.{Up}
@@ -17,15 +17,15 @@ use Rattle.mq_calls.specs.Changes.{apply_all}
 use Rattle.mq_calls.specs.Images.{lasting, begun, raised}
 use Rattle.mq_calls.specs.declared.image.Image.{Image}
 use Rattle.mq_calls.specs.Steps.{Part, freeze, note_of, do_part, stands_in}
-use Rattle.mq_spec_manager.specs.Stops.{failed, stop, stop_at, stop_changes, redone_if, restarted, next_started, started_record, grown}
-use Rattle.mq_spec_log.specs.Applies.Start.{First, Later}
-use Rattle.mq_spec_log.specs.Applies.{Start, applies, suits, was_given, idents_in, is_in_bounds}
-use Rattle.mq_spec_log.specs.Records.{doing}
-use Rattle.mq_spec_log.specs.Bodies.{record_of, behind, or_place, image_from, begins, image, empty_image}
-use Rattle.mq_spec_log.proofs.BodyLaws.{image_more, record_back}
-use Rattle.mq_law_manager.proofs.Lists.{bool_case}
-use Rattle.mq_law_manager.proofs.Named.{name_self}
-use Rattle.mq_law_manager.proofs.Untouched.{changes_untouched}
+use Rattle.mq_law_log.specs.from_spec_manager.Stops.{failed, stop, stop_at, stop_changes, redone_if, restarted, next_started, started_record, grown}
+use Rattle.mq_law_log.specs.from_spec_log.Applies.Start.{First, Later}
+use Rattle.mq_law_log.specs.from_spec_log.Applies.{Start, applies, suits, was_given, idents_in, is_in_bounds}
+use Rattle.mq_law_log.specs.from_spec_log.Records.{doing}
+use Rattle.mq_law_log.specs.from_spec_log.Bodies.{record_of, behind, or_place, image_from, begins, image, empty_image}
+use Rattle.mq_law_log.proofs.from_spec_log.BodyLaws.{image_more, record_back}
+use Rattle.mq_law_log.proofs.from_law_manager.Lists.{bool_case}
+use Rattle.mq_law_log.proofs.from_law_manager.Named.{name_self}
+use Rattle.mq_law_log.proofs.from_law_manager.Untouched.{changes_untouched}
 use Rattle.mq_law_log.specs.Restarts.{IsHarmless, IsGivenIn, gone}
 use Rattle.mq_law_log.proofs.Stops.{frozen_lasts, rest_lasts, restart_recovers}
 use Rattle.mq_law_log.proofs.Ties.{told, written_tied}

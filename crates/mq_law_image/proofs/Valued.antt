@@ -36,20 +36,20 @@ use Rattle.mq_objects.specs.Changed.{set_in, delete_in, changed}
 use Rattle.mq_calls.specs.declared.commands.ScRefusal.{ScRefusal}
 use Rattle.mq_calls.specs.declared.commands.ScRefusal.TheVariants as refusals
 use Rattle.mq_calls.specs.declared.commands.Shown.{Shown}
-use Rattle.mq_sc_apply.specs.declared.answers.Planned.{Planned}
-use Rattle.mq_sc_apply.specs.declared.answers.Plan.TheVariants as plans
-use Rattle.mq_sc_apply.specs.Uses.{Uses}
-use Rattle.mq_sc_apply.specs.Planned as planning
-use Rattle.mq_sc_apply.specs.Planned.{is_type_setting, defined_object, define_at, define, alter_at, alter_good, alter, alter_manager, delete_at, delete, bad_in, leads_elsewhere, switches_on, default_changes}
-use Rattle.mq_sc_apply.specs.Commands.{plan, to_change, to_show}
-use Rattle.mq_sc_apply.specs.Displayed.{display}
+use Rattle.mq_law_log.specs.from_sc_apply.{ThePlanned as Planned}
+use Rattle.mq_law_log.specs.from_sc_apply.PlanVariants as plans
+use Rattle.mq_law_log.specs.from_sc_apply.Uses.{Uses}
+use Rattle.mq_law_log.specs.from_sc_apply.Planned as planning
+use Rattle.mq_law_log.specs.from_sc_apply.Planned.{is_type_setting, defined_object, define_at, define, alter_at, alter_good, alter, alter_manager, delete_at, delete, bad_in, leads_elsewhere, switches_on, default_changes}
+use Rattle.mq_law_log.specs.from_sc_apply.Commands.{plan, to_change, to_show}
+use Rattle.mq_law_log.specs.from_sc_apply.Displayed.{display}
 use Rattle.mq_sc_keys.specs.declared.keys.Key.{Key}
 use Rattle.mq_sc_keys.specs.declared.attributes.Kind.{Kind}
 use Rattle.mq_sc_keys.specs.declared.attributes.Kind.TheVariants as kinds
 use Rattle.mq_sc_grammar.proofs.Words.{bytes_same}
-use Rattle.mq_law_manager.specs.Facts.{Mem}
-use Rattle.mq_law_manager.proofs.Lists.{bool_case}
-use Rattle.mq_law_manager.proofs.Named.{name_self}
+use Rattle.mq_law_log.specs.from_law_manager.Facts.{Mem}
+use Rattle.mq_law_log.proofs.from_law_manager.Lists.{bool_case}
+use Rattle.mq_law_log.proofs.from_law_manager.Named.{name_self}
 use Rattle.mq_law_image.specs.Laid.{IsSubject}
 use Rattle.mq_law_image.specs.Values.{kept_keys, IsKeptText, AreKeptTexts, IsManagerText, IsAliasText, IsRemoteText, IsProcessText, IsKindText, IsChannelText, IsLocalText, IsObjectText, AreObjectTexts, IsChangeText, IsSettingText, kind_of, IsCommandText}
 use Rattle.mq_law_image.proofs.Settings.{blank_name}

@@ -28,8 +28,8 @@ use Rattle.mq_sc_keys.specs.Attributes.{named_by, options_of}
 use Rattle.mq_sc_keys.specs.Values.{given_of, set_to, number_value, number_or_none, name_value, name_or_none, text_value}
 use Rattle.mq_sc_grammar.proofs.Words.{one_key, bytes_same, same_bytes}
 use Rattle.mq_base.specs.Members.{AreDistinct}
-use Rattle.mq_law_manager.specs.Facts.{Mem}
-use Rattle.mq_law_manager.proofs.Lists.{bool_case, is_false}
+use Rattle.mq_law_log.specs.from_law_manager.Facts.{Mem}
+use Rattle.mq_law_log.proofs.from_law_manager.Lists.{bool_case, is_false}
 use Rattle.mq_law_image.specs.Laid.Bit.{Word}
 use Rattle.mq_law_image.specs.Laid.{IsWell, is_no_end, Ends, IsWritten}
 use Rattle.mq_law_image.proofs.Members.{both}

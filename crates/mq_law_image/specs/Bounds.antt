@@ -12,8 +12,8 @@ use Rattle.mq_calls.specs.Counts.{starts_of}
 use Rattle.mq_calls.specs.Sizes.{need}
 use Rattle.mq_calls.specs.Steps.{Part, Step}
 use Rattle.mq_calls.specs.Steps.Step.{Refuse, Do}
-use Rattle.mq_spec_manager.specs.Stops.{started_need}
-use Rattle.mq_law_manager.specs.Facts.{Mem}
+use Rattle.mq_law_log.specs.from_spec_manager.Stops.{started_need}
+use Rattle.mq_law_log.specs.from_law_manager.Facts.{Mem}
 
 -- Each counter is at most so high, those of a queue by its name: an uncommitted put of it may arrive, and bring a trigger.
 pub record IsBounded (most : ℕ) (p : Plain) : Type 0 where

@@ -16,8 +16,8 @@ use Rattle.mq_sc_keys.specs.declared.verbs.Verb.TheVariants as verbs
 use Rattle.mq_sc_keys.specs.declared.verbs.Noun.{Noun}
 use Rattle.mq_sc_keys.specs.Verbs.{object_text, takes}
 use Rattle.mq_objects.specs.Attributes.{attributes}
-use Rattle.mq_sc_apply.specs.Planned.{defined_object}
-use Rattle.mq_spec_log.specs.Texts.{gives_all}
+use Rattle.mq_law_log.specs.from_sc_apply.Planned.{defined_object}
+use Rattle.mq_law_log.specs.from_spec_log.Texts.{gives_all}
 use Rattle.mq_sc_keys.specs.declared.attributes.Kind.{Kind}
 use Rattle.mq_sc_keys.specs.declared.giving.Given.TheVariants as given
 use Rattle.mq_sc_keys.specs.Keys.{key_text}
@@ -25,7 +25,7 @@ use Rattle.mq_sc_keys.specs.Attributes.{named_by, options_of}
 use Rattle.mq_sc_keys.specs.Values.{given_of}
 use Rattle.mq_sc_grammar.specs.Spelling.{Clause}
 use Rattle.mq_sc_grammar.specs.Commands.{value_of, IsKind, AreSingle, HasNeeded}
-use Rattle.mq_law_manager.specs.Facts.{Mem}
+use Rattle.mq_law_log.specs.from_law_manager.Facts.{Mem}
 use Rattle.mq_sc_grammar.specs.Written.{IsWordText, BeginsApart, BeginsUnquoted}
 
 pub data Bit : Type 0 where

@@ -20,7 +20,7 @@ use Rattle.mq_calls.specs.Changes.{lane_of, comes_before}
 use Rattle.mq_calls.specs.declared.image.Image.{Image}
 use Rattle.mq_calls.specs.declared.image.Shelf.{Shelf}
 use Rattle.mq_calls.specs.Recovery.{IsListed, listed, routes, IsKnown, IsDoubtKnown, IsSenderSide, IsReceiverSide}
-use Rattle.mq_law_manager.specs.Facts.{Mem, Chain, Differ, ident_of, AreOnce, AreLaned, AreSorted}
+use Rattle.mq_law_log.specs.from_law_manager.Facts.{Mem, Chain, Differ, ident_of, AreOnce, AreLaned, AreSorted}
 
 -- What rows are seen against: the manager's number, the incarnations that have begun, the definitions, units in doubt.
 pub record Sight : Type 0 where

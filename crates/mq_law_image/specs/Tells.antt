@@ -3,9 +3,9 @@ use Rattle.std.specs.Prelude.{◌≡◌, ℕ, ◌+◌, Bool, List, Option, Ok}
 use Rattle.mq_calls.specs.State.{Plain, Noted, Running, LogState}
 use Rattle.mq_calls.specs.Images.{lasting}
 use Rattle.mq_calls.specs.declared.image.Image.{Image}
-use Rattle.mq_spec_log.specs.Applies.{Start}
-use Rattle.mq_spec_log.specs.Bodies.{image}
-use Rattle.mq_spec_manager.specs.Stops.{redone_if}
+use Rattle.mq_law_log.specs.from_spec_log.Applies.{Start}
+use Rattle.mq_law_log.specs.from_spec_log.Bodies.{image}
+use Rattle.mq_law_log.specs.from_spec_manager.Stops.{redone_if}
 
 -- what lasts of it, while it is up
 abbrev pub Tells : Start → List (List ℕ) → Plain → Type 0

@@ -30,11 +30,11 @@ use Rattle.mq_sc_keys.specs.declared.attributes.Kind.TheVariants as kinds
 use Rattle.mq_sc_keys.specs.Keys.{key_text, group_of}
 use Rattle.mq_calls.specs.declared.records.LogRecord.{LogRecord}
 use Rattle.mq_calls.specs.declared.records.LogRecord.TheVariants as records
-use Rattle.mq_record.specs.Records.{IsRecord}
+use Rattle.mq_law_log.specs.from_record.Records.{IsRecord}
 use Rattle.mq_calls.specs.Sizes.{change_text}
 use Rattle.mq_calls.specs.Steps.{Step}
-use Rattle.mq_law_manager.specs.Facts.{Mem}
-use Rattle.mq_law_manager.specs.Forced.{StepForces}
+use Rattle.mq_law_log.specs.from_law_manager.Facts.{Mem}
+use Rattle.mq_law_log.specs.from_law_manager.Forced.{StepForces}
 use Rattle.mq_law_image.specs.Laid.{IsSubject, is_no_end}
 
 -- ---- what is kept without effect

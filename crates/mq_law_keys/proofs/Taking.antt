@@ -31,8 +31,8 @@ use Rattle.mq_spec_node.specs.Operators.{close_open, end_here, is_bad_number, is
 use Rattle.mq_spec_node.specs.Receivers.{receiver_deed}
 use Rattle.mq_spec_node.specs.Senders.{sender_deed, timeout_deed}
 use Rattle.mq_spec_node.specs.Happens.{deed_of, receiver_turn, sender_turn, timeout_of}
-use Rattle.mq_law_channel.specs.Channel.{Channel, Past}
-use Rattle.mq_law_channel.specs.Turns as channel
+use Rattle.mq_law_node.specs.from_law_channel.Channel.{Channel, Past}
+use Rattle.mq_law_node.specs.from_law_channel.Turns as channel
 use Rattle.mq_law_node.specs.Data.{receives_at}
 use Rattle.mq_law_node.specs.Ends.{TakesAs, Where, receiver_of, told_receives}
 use Rattle.mq_law_node.specs.Moves.{FarStep}

@@ -6,7 +6,7 @@ use Rattle.mq_spec_node.specs.Node.{ChannelEnd, Node, ReceiverEnd, SenderEnd, ca
 use Rattle.mq_spec_node.specs.Node.ChannelEnd.{Receives, Sends}
 use Rattle.mq_spec_node.specs.Status.{channel_at}
 use Rattle.mq_spec_node.specs.Deeds.{Deed}
-use Rattle.mq_law_channel.specs.Channel.{Channel, Past}
+use Rattle.mq_law_node.specs.from_law_channel.Channel.{Channel, Past}
 use Rattle.mq_law_node.specs.Ends.{Where}
 use Rattle.mq_law_node.specs.Beside.{DoesFar}
 

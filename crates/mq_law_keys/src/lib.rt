@@ -17,7 +17,7 @@ ghost use Rattle.mq_spec_node.specs.Node.ChannelEnd.{Sends};
 ghost use Rattle.mq_spec_node.specs.Happens.{deed_of, event};
 ghost use Rattle.mq_spec_node.specs.Replays.{after, opening_node};
 ghost use Rattle.mq_spec_network.specs.Given.{surroundings};
-ghost use Rattle.mq_law_channel.specs.Channel.{Channel, Past};
+ghost use Rattle.mq_law_node.specs.from_law_channel.Channel.{Channel, Past};
 ghost use Rattle.mq_law_node.specs.Ends.{SendsAs, TakesAs, Where};
 ghost use Rattle.mq_law_node.specs.Beside.{EachDoes, KeyedNear, is_ours, is_ours_far};
 ghost use Rattle.mq_law_keys.specs.Keys.{EachDoesFar, IsKeyed, keys};

@@ -23,6 +23,7 @@ use Rattle.mq_law_manager.specs.View.{Taken, view, takes_in, items_of}
 use Rattle.mq_law_manager.specs.Facts.{Mem, Sound, AreNamed, IsSound}
 use Rattle.mq_law_manager.proofs.Lists.{ident_yes, one_row}
 use Rattle.mq_law_manager.proofs.Named.{name_is}
+use Rattle.mq_law_manager.proofs.Stocks.{both_among as both}
 use Rattle.mq_law_log.proofs.Shelves.{shelves_alike}
 use Rattle.mq_law_log.proofs.Batches.{all_map, rows_alike_each}
 use Rattle.mq_law_log.proofs.Parts.{applied_append}
@@ -88,12 +89,6 @@ freed_lasts [] p h = refl
 freed_lasts (Put queue m ∷ items) p h = freed_lasts items p h.1
 freed_lasts (Take queue ident persistent ∷ items) p h =
     freed_lasts items (apply (Release (Among queue (ident ∷ [])) true) p) (items_rest queue ident items p h.1) ∙ released queue ident p h.0
-
--- In a sound manager the rows of a unit's gets are the unit's.
-both : (a b : Bool) → (a && (b || false)) ≡ true → (a ≡ true) × (b ≡ true)
-both true true e = (refl, refl)
-both true false e = absurd cc
-both false b e = absurd cc
 
 unit_rests : (p : Plain) → Sound p → AreNamed p.queues → (n : ℕ) (items : List Item) → ((t : Taken) → Mem t (takes_in items) → Mem t ((view p).takes n)) → AllByRecursion (ItemRests p) items
 unit_rests p h names n [] takes = tt

@@ -36,6 +36,7 @@ use Rattle.mq_law_manager.proofs.Batches.{by_batch, is_by_batch}
 use Rattle.mq_law_manager.proofs.Needed.{next_lacks, put_lacks}
 use Rattle.mq_law_manager.proofs.Puts.{next_unborn}
 use Rattle.mq_law_manager.proofs.Stocks.{connection_mem}
+use Rattle.mq_law_manager.proofs.Objects.{both}
 use Rattle.mq_law_log.specs.Keeps.{AreLaned, AreUnlisted, IsNew, HoldsJust}
 use Rattle.mq_law_log.specs.Sound.{all_rows, IsItem, item_ident, AreApart, IsUnit, LeadsWell, IsLogSound}
 
@@ -44,7 +45,7 @@ all_of P [] h = tt
 all_of P (x ∷ xs) h = (h x (inl refl), all_of P xs (λ y m. h y (inr m)))
 
 -- a queue of the list is the one of its name
-entry_found : (qs : List Queue) → AreNamed qs → (q : Queue) → Mem q qs → queue_in q.name qs ≡ q
+pub entry_found : (qs : List Queue) → AreNamed qs → (q : Queue) → Mem q qs → queue_in q.name qs ≡ q
 entry_found [] n q m = absurd m
 entry_found (x ∷ xs) n q (inl e) = ap (λ (y : Queue). if bytes_eq q.name y.name then y else queue_in q.name xs) (sym e) ∙ ap (λ (b : Bool). if b then q else queue_in q.name xs) (name_self q.name)
 entry_found (x ∷ xs) n q (inr m) = ap (λ (b : Bool). if b then x else queue_in q.name xs) (name_turned q.name x.name ∙ n.0 q m) ∙ entry_found xs n.1 q m
@@ -101,11 +102,6 @@ distinct_all p h n (q ∷ qs) there names = distinct_append q.rows (all_rows qs)
     ))))
 
 -- Batches
-
-both : (a b : Bool) → (a && b) ≡ true → (a ≡ true) × (b ≡ true)
-both true true e = (refl, refl)
-both true false e = absurd cc
-both false b e = absurd cc
 
 same_bool : (a b : Bool) → (a ≡ true → b ≡ true) → (b ≡ true → a ≡ true) → a ≡ b
 same_bool true b f g = sym (f refl)

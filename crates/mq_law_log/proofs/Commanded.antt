@@ -1,36 +1,25 @@
 -- An object command does what its record says, in a sound manager; so its write makes a crash harmless.
 use Rattle.std.proofs.Common.{ℕ, ◌≡◌, Bool, true, false, List, [], ◌∷◌, ◌++◌, refl, ap, sym, ◌∙◌, length, arith, inl, inr, ◌⊎◌}
-use Rattle.std.specs.Prelude.{Option, Some, None, Result, Ok, Err, is_some, not, ◌&&◌, ◌||◌, filter, if◌then◌else◌}
+use Rattle.std.specs.Prelude.{Option, Some, None, Result, Ok, Err, is_some, not, ◌&&◌, ◌||◌}
 use Rattle.mq_queue.specs.declared.row.Row.{Row}
 use Rattle.mq_objects.specs.declared.object.LocalQueue.{LocalQueue}
 use Rattle.mq_objects.specs.declared.object.Object.{Object}
 use Rattle.mq_objects.specs.declared.object.Object.TheVariants as objects
 use Rattle.mq_objects.specs.declared.object.Definitions.{Definitions}
-use Rattle.mq_objects.specs.declared.setting.Setting.{Setting}
-use Rattle.mq_objects.specs.declared.setting.Keyword.{Keyword}
 use Rattle.mq_objects.specs.declared.command.Subject.{Subject}
 use Rattle.mq_objects.specs.declared.command.Subject.TheVariants as subjects
 use Rattle.mq_objects.specs.declared.command.Command.{Command}
-use Rattle.mq_objects.specs.declared.command.Command.TheVariants as commands
-use Rattle.mq_objects.specs.declared.command.Define.{Define}
-use Rattle.mq_objects.specs.declared.command.Alter.{Alter}
-use Rattle.mq_objects.specs.declared.command.Delete.{Delete}
 use Rattle.mq_objects.specs.declared.change.ObjectChange.{ObjectChange}
 use Rattle.mq_objects.specs.declared.change.ObjectChange.TheVariants as changes
-use Rattle.mq_objects.specs.Names.{Space, Queues, space_of, name_of, as_local, local_of, named, object_in, is_kind, is_transmission, is_by_priority, subject_space, subject_name}
-use Rattle.mq_objects.specs.Defaults.{new_object}
-use Rattle.mq_objects.specs.Settings.{set_object, set_all, set_all_manager}
+use Rattle.mq_objects.specs.Names.{Queues, space_of, name_of, as_local, local_of, named, is_kind, is_transmission, is_by_priority}
 use Rattle.mq_resolve.specs.declared.route.PathStep.{PathStep}
 use Rattle.mq_resolve.specs.declared.route.PathStep.TheVariants as steps
 use Rattle.mq_calls.specs.declared.commands.ScRefusal.{ScRefusal}
 use Rattle.mq_calls.specs.declared.commands.ScRefusal.TheVariants as refusals
-use Rattle.mq_calls.specs.declared.commands.Shown.{Shown}
-use Rattle.mq_sc_apply.specs.declared.answers.Planned.{Planned}
-use Rattle.mq_sc_apply.specs.declared.answers.Plan.{Plan}
-use Rattle.mq_sc_apply.specs.declared.answers.Plan.TheVariants as plans
-use Rattle.mq_sc_apply.specs.Commands.{plan, to_change, to_show}
-use Rattle.mq_sc_apply.specs.Displayed.{display}
-use Rattle.mq_sc_apply.specs.Planned.{is_type_setting, define, define_at, defined_object, changed, is_used, same_usage, same_delivery, changes_rows, is_filled, alter, alter_at, alter_good, bad_in, switches_on, alter_manager, default_changes, delete, delete_at, is_on_path, is_sent_from, is_busy}
+use Rattle.mq_spec_manager.specs.from_sc_apply.{Plan, ThePlanned as Planned}
+use Rattle.mq_spec_manager.specs.from_sc_apply.PlanVariants as plans
+use Rattle.mq_spec_manager.specs.from_sc_apply.Commands.{plan}
+use Rattle.mq_spec_manager.specs.from_sc_apply.Planned.{same_usage, same_delivery, changes_rows, is_filled}
 use Rattle.mq_calls.specs.State.{Plain}
 use Rattle.mq_calls.specs.State.Change.{ChangeObjects}
 use Rattle.mq_calls.specs.Reads.{is_up, stored, has_rows, puts_to}
@@ -40,11 +29,11 @@ use Rattle.mq_calls.specs.Images.{lasting, lasting_rows}
 use Rattle.mq_calls.specs.declared.image.Shelf.{Shelf}
 use Rattle.mq_spec_manager.specs.Commands.{command, planned_step, object_part, uses_of, follows, renewed, renewed_if, stale_if, switched_if, dropped}
 use Rattle.mq_spec_log.specs.Applies.{agrees, has_rows_on, same_form, can_replace, can_set, is_empty_local, can_delete, can_change}
-use Rattle.mq_law_manager.specs.Facts.{IsSound}
+use Rattle.mq_law_manager.specs.Facts.{IsSound, is_local}
 use Rattle.mq_law_manager.proofs.Lists.{bool_case}
-use Rattle.mq_law_manager.proofs.Objects.{object_is, found_object, new_space, new_name, all_alike, defined_alike}
+use Rattle.mq_law_manager.proofs.Objects.{object_is, found_object, rank}
 use Rattle.mq_law_manager.proofs.StockCommands.{has_no_rows, used_alike, given_alike, both_true}
-use Rattle.mq_law_manager.proofs.Planning.{not_false, no_left}
+use Rattle.mq_law_manager.proofs.Planning.{EachChange, PlanHas, object_at, plan_has}
 use Rattle.mq_law_log.specs.Keeps.{SwitchesAt, has_queue}
 use Rattle.mq_law_log.specs.Restarts.{StepHarmless}
 use Rattle.mq_law_log.proofs.Shelves.{shelf_found}
@@ -53,53 +42,6 @@ use Rattle.mq_law_log.proofs.Parts.{applied_append}
 use Rattle.mq_law_log.proofs.Bridge.{sound_logs}
 use Rattle.mq_law_log.proofs.Steady.{AllSteady, steady_append, steady_harmless}
 use Rattle.mq_law_log.proofs.Applications.{tested_h}
-
--- Kinds of objects, as numbers
-
-abbrev rank : Object → ℕ
-rank (objects.Local q) = 0
-rank (objects.Alias q) = 1
-rank (objects.Remote q) = 2
-rank (objects.Channel c) = 3
-rank (objects.Process p) = 4
-
-rank_set : (s : Setting) (o : Object) → rank (set_object s o) ≡ rank o
-rank_set s (objects.Local q) = refl
-rank_set s (objects.Alias q) = refl
-rank_set s (objects.Remote q) = refl
-rank_set s (objects.Channel c) = refl
-rank_set s (objects.Process p) = refl
-
-rank_all : (ss : List Setting) (o : Object) → rank (set_all ss o) ≡ rank o
-rank_all [] o = refl
-rank_all (s ∷ ss) o = rank_all ss (set_object s o) ∙ rank_set s o
-
-rank_kind : (s : Subject) (o : Object) → is_kind s o ≡ true → rank o ≡ rank (new_object s)
-rank_kind (subjects.Local n) (objects.Local q) e = refl
-rank_kind (subjects.Local n) (objects.Alias q) e = absurd cc
-rank_kind (subjects.Local n) (objects.Remote q) e = absurd cc
-rank_kind (subjects.Local n) (objects.Channel q) e = absurd cc
-rank_kind (subjects.Local n) (objects.Process q) e = absurd cc
-rank_kind (subjects.Alias n) (objects.Local q) e = absurd cc
-rank_kind (subjects.Alias n) (objects.Alias q) e = refl
-rank_kind (subjects.Alias n) (objects.Remote q) e = absurd cc
-rank_kind (subjects.Alias n) (objects.Channel q) e = absurd cc
-rank_kind (subjects.Alias n) (objects.Process q) e = absurd cc
-rank_kind (subjects.Remote n) (objects.Local q) e = absurd cc
-rank_kind (subjects.Remote n) (objects.Alias q) e = absurd cc
-rank_kind (subjects.Remote n) (objects.Remote q) e = refl
-rank_kind (subjects.Remote n) (objects.Channel q) e = absurd cc
-rank_kind (subjects.Remote n) (objects.Process q) e = absurd cc
-rank_kind (subjects.Channel n) (objects.Local q) e = absurd cc
-rank_kind (subjects.Channel n) (objects.Alias q) e = absurd cc
-rank_kind (subjects.Channel n) (objects.Remote q) e = absurd cc
-rank_kind (subjects.Channel n) (objects.Channel q) e = refl
-rank_kind (subjects.Channel n) (objects.Process q) e = absurd cc
-rank_kind (subjects.Process n) (objects.Local q) e = absurd cc
-rank_kind (subjects.Process n) (objects.Alias q) e = absurd cc
-rank_kind (subjects.Process n) (objects.Remote q) e = absurd cc
-rank_kind (subjects.Process n) (objects.Channel q) e = absurd cc
-rank_kind (subjects.Process n) (objects.Process q) e = refl
 
 -- An object that takes the place of one of its kind
 
@@ -162,22 +104,12 @@ replaces (objects.Process b) (objects.Channel a) p name kind e = absurd (omega (
 
 -- What a plan must be
 
-pub record IsGood (planned : Planned) (p : Plain) : Type 0 where
-  pub can : can_change planned.change p.definitions (lasting p).shelves ≡ true
-  pub switches : SwitchesAt planned.change planned p.definitions (apply (ChangeObjects planned.change) p)
-
-abbrev PlanGood : Plain → Result Planned ScRefusal → Type 0
-PlanGood p (Ok planned) = IsGood planned p
-PlanGood p (Err refusal) = Unit {0}
-
-row_good : (p : Plain) (b : Bool) (e : ScRefusal) (rest : Result Planned ScRefusal) → (b ≡ false → PlanGood p rest) → PlanGood p (if b then Err e else rest)
-row_good p b e rest k = bool_case b (λ t. b ≡ t → PlanGood p (if t then Err e else rest)) (λ z w. tt) (λ z w. k w) refl
-
-abbrev At : Object → Plain → Option Object
-At new p = object_in (space_of new) (name_of new) p.definitions.objects
+record IsGood (change : ObjectChange) (reroutes on : Bool) (p : Plain) : Type 0 where
+  can : can_change change p.definitions (lasting p).shelves ≡ true
+  switches : SwitchesAt change (record { change = change; reroutes = reroutes; switches_on = on }) p.definitions (apply (ChangeObjects change) p)
 
 -- a local queue that is there is there still, behind what begins anew
-switch_there : (new old : Object) (p : Plain) → IsSound p → rank old ≡ rank new → At new p ≡ Some old → (has_queue (name_of new) (apply_all (renewed new p.definitions) (apply (ChangeObjects (changes.Set new)) p)).queues ≡ true) ⊎ (rank new ≡ 0 → ⊥)
+switch_there : (new old : Object) (p : Plain) → IsSound p → rank old ≡ rank new → object_at new p.definitions ≡ Some old → (has_queue (name_of new) (apply_all (renewed new p.definitions) (apply (ChangeObjects (changes.Set new)) p)).queues ≡ true) ⊎ (rank new ≡ 0 → ⊥)
 switch_there (objects.Local b) (objects.Local a) p h kind e = inl (at (local_of b.name p.definitions) (ap as_local e))
   where
     at : (o : Option LocalQueue) → o ≡ Some a → has_queue b.name (apply_all (renewed_if o b.name) (apply (ChangeObjects (changes.Set (objects.Local b))) p)).queues ≡ true
@@ -192,50 +124,6 @@ switch_there (objects.Remote b) old p h kind e = inr (λ z. omega (arith, z))
 switch_there (objects.Channel b) old p h kind e = inr (λ z. omega (arith, z))
 switch_there (objects.Process b) old p h kind e = inr (λ z. omega (arith, z))
 
-changed_good : (p : Plain) (force : Bool) (old new : Object) (on : Bool) → IsSound p → At new p ≡ Some old → rank old ≡ rank new → (on ≡ true → rank new ≡ 0) → PlanGood p (changed force old new on (uses_of p))
-changed_good p force old new on h found kind local = row_good p (is_used force old new (uses_of p)) refusals.InUse _ (λ e. row_good p (changes_rows old new && is_filled old (uses_of p)) refusals.NotEmpty _ (λ w. record {
-  can = ap (λ (o : Option Object). can_set new o (lasting p).shelves) found ∙ replaces new old p (object_is (space_of new) (name_of new) old (found_object (space_of new) (name_of new) p.definitions.objects old found)).1 kind w;
-  switches = λ s. elim (switch_there new old p h kind found) [ inl z ↦ z | inr z ↦ absurd (z (local s)) ];
-}))
-
--- an object that is found by the subject that the command names
-found_as : (s : Subject) (new : Object) (o : Option Object) (p : Plain) → space_of new ≡ subject_space s → name_of new ≡ subject_name s → named s p.definitions ≡ o → At new p ≡ o
-found_as s new o p space name e = ap (λ (x : Space). object_in x (name_of new) p.definitions.objects) space ∙ ap (λ (n : List ℕ). object_in (subject_space s) n p.definitions.objects) name ∙ e
-
-define_good : (p : Plain) (d : Define) (o : Option Object) → IsSound p → named d.subject p.definitions ≡ o → PlanGood p (define_at d (defined_object d.subject d.settings) o (uses_of p))
-define_good p d None h e =
-    let a = defined_alike d.subject d.settings in
-    let new : Object = defined_object d.subject d.settings in
-    record {
-      can = ap (λ (o : Option Object). can_set new o (lasting p).shelves) (found_as d.subject new None p (a.space ∙ new_space d.subject) (a.name ∙ new_name d.subject) e);
-      switches = λ s. absurd cc;
-    }
-define_good p d (Some old) h e =
-    let a = defined_alike d.subject d.settings in
-    let new : Object = defined_object d.subject d.settings in
-    row_good p (not d.replace || not (is_kind d.subject old)) refusals.Exists _ (λ k.
-    changed_good p false old new false h (found_as d.subject new (Some old) p (a.space ∙ new_space d.subject) (a.name ∙ new_name d.subject) e)
-    (rank_kind d.subject old (not_false (is_kind d.subject old) (no_left (not d.replace) (not (is_kind d.subject old)) k)) ∙ sym (rank_all d.settings (set_all (filter is_type_setting d.settings) (new_object d.subject)) ∙ rank_all (filter is_type_setting d.settings) (new_object d.subject))) (λ s. absurd cc))
-
-switched_local : (old : Object) (ss : List Setting) → switches_on old ss ≡ true → rank old ≡ 0
-switched_local (objects.Local q) ss e = refl
-switched_local (objects.Alias q) ss e = absurd cc
-switched_local (objects.Remote q) ss e = absurd cc
-switched_local (objects.Channel q) ss e = absurd cc
-switched_local (objects.Process q) ss e = absurd cc
-
-good_good : (p : Plain) (a : Alter) (old : Object) (o : Option Keyword) → IsSound p → named a.subject p.definitions ≡ Some old → PlanGood p (alter_good o a old (uses_of p))
-good_good p a old (Some keyword) h e = tt
-good_good p a old None h e =
-    let k = all_alike a.settings old in
-    let is = object_is (subject_space a.subject) (subject_name a.subject) old (found_object (subject_space a.subject) (subject_name a.subject) p.definitions.objects old e) in
-    changed_good p a.force old (set_all a.settings old) (switches_on old a.settings) h (found_as a.subject (set_all a.settings old) (Some old) p (k.space ∙ sym is.0) (k.name ∙ sym is.1) e) (sym (rank_all a.settings old))
-    (λ s. rank_all a.settings old ∙ switched_local old a.settings s)
-
-alter_good_whole : (p : Plain) (a : Alter) (o : Option Object) → IsSound p → named a.subject p.definitions ≡ o → PlanGood p (alter_at a o (uses_of p))
-alter_good_whole p a None h e = tt
-alter_good_whole p a (Some old) h e = row_good p (not (is_kind a.subject old)) refusals.Missing (alter_good (bad_in old a.settings) a old (uses_of p)) (λ k. good_good p a old (bad_in old a.settings) h e)
-
 emptied : (s : Subject) (old : Object) (p : Plain) → named s p.definitions ≡ Some old → is_kind s old ≡ true → is_filled old (uses_of p) ≡ false → is_empty_local s (lasting p).shelves ≡ true
 emptied (subjects.Local name) (objects.Local q) p e k f = ap not (ap (λ (n : List ℕ). has_rows_on n (lasting p).shelves) (object_is Queues name (objects.Local q) (found_object Queues name p.definitions.objects (objects.Local q) e)).1 ∙ empty_shelf q.name p f)
 emptied (subjects.Local name) (objects.Alias q) p e k f = absurd cc
@@ -247,34 +135,37 @@ emptied (subjects.Remote name) old p e k f = refl
 emptied (subjects.Channel name) old p e k f = refl
 emptied (subjects.Process name) old p e k f = refl
 
-delete_good : (p : Plain) (d : Delete) (o : Option Object) → named d.subject p.definitions ≡ o → PlanGood p (delete_at d o (uses_of p))
-delete_good p d None e = tt
-delete_good p d (Some old) e = row_good p (not (is_kind d.subject old)) refusals.Missing _ (λ k. row_good p (is_on_path old (uses_of p) || is_sent_from old (uses_of p) || is_busy old (uses_of p)) refusals.InUse _
-    (λ n. row_good p (is_filled old (uses_of p)) refusals.NotEmpty _ (λ f.
-    let kind : is_kind d.subject old ≡ true = not_false (is_kind d.subject old) k in
-    let empty : is_empty_local d.subject (lasting p).shelves ≡ true = emptied d.subject old p e kind f in
-    record { can = ap (λ (o : Option Object). can_delete d.subject o (lasting p).shelves) e ∙ (λ i. kind i && empty i); switches = tt })))
+local_rank : (old : Object) → is_local old ≡ true → rank old ≡ 0
+local_rank (objects.Local q) e = refl
+local_rank (objects.Alias q) e = absurd cc
+local_rank (objects.Remote q) e = absurd cc
+local_rank (objects.Channel c) e = absurd cc
+local_rank (objects.Process q) e = absurd cc
+
+-- each change that a command plans is such a one
+abbrev GoodSo : Plain → ObjectChange → Bool → Bool → Type 0
+GoodSo p change reroutes on = IsGood change reroutes on p
+
+each_good : (c : Command) (p : Plain) → IsSound p → EachChange (GoodSo p) c p.definitions (uses_of p)
+each_good c p h = record {
+  fresh = λ new none. record { can = ap (λ (o : Option Object). can_set new o (lasting p).shelves) none; switches = λ s. absurd cc };
+  over = λ old new on is. record {
+    can = ap (λ (o : Option Object). can_set new o (lasting p).shelves) is.found
+        ∙ replaces new old p (object_is (space_of new) (name_of new) old (found_object (space_of new) (name_of new) p.definitions.objects old is.found)).1 (sym is.alike) is.filled;
+    switches = λ s. elim (switch_there new old p h (sym is.alike) is.found) [ inl z ↦ z | inr z ↦ absurd (z (is.alike ∙ local_rank old (is.local s))) ];
+  };
+  manager = λ a reroutes e. record { can = refl; switches = tt };
+  gone = λ s old is.
+      let kind : is_kind s old ≡ true = is.kind in
+      let empty : is_empty_local s (lasting p).shelves ≡ true = emptied s old p is.found is.kind is.filled in
+      record { can = ap (λ (o : Option Object). can_delete s o (lasting p).shelves) is.found ∙ (λ i. kind i && empty i); switches = tt };
+}
 
 abbrev AllGood : Plain → Result Plan ScRefusal → Type 0
-AllGood p (Ok (plans.Change planned)) = IsGood planned p
-AllGood p (Ok (plans.Show shown)) = Unit {0}
-AllGood p (Err refusal) = Unit {0}
-
-to_good : (p : Plain) (r : Result Planned ScRefusal) → PlanGood p r → AllGood p (to_change r)
-to_good p (Ok planned) h = h
-to_good p (Err refusal) h = tt
-
-to_shown : (p : Plain) (r : Result Shown ScRefusal) → AllGood p (to_show r)
-to_shown p (Ok shown) = tt
-to_shown p (Err refusal) = tt
+AllGood p r = PlanHas (GoodSo p) r
 
 plan_good : (c : Command) (p : Plain) → IsSound p → AllGood p (plan c p.given.name p.definitions (uses_of p))
-plan_good (commands.Define d) p h = to_good p (define d p.definitions (uses_of p)) (define_good p d (named d.subject p.definitions) h refl)
-plan_good (commands.Alter a) p h = to_good p (alter a p.definitions (uses_of p)) (alter_good_whole p a (named a.subject p.definitions) h refl)
-plan_good (commands.AlterManager a) p h = to_good p (alter_manager a p.definitions (uses_of p))
-    (row_good p (not a.force && default_changes p.definitions.manager (set_all_manager a.settings p.definitions.manager) && (uses_of p).defxmitq_on_path) refusals.InUse _ (λ e. record { can = refl; switches = tt }))
-plan_good (commands.Delete d) p h = to_good p (delete d p.definitions (uses_of p)) (delete_good p d (named d.subject p.definitions) refl)
-plan_good (commands.Display d) p h = to_shown p (display d p.given.name p.definitions (uses_of p))
+plan_good c p h = plan_has (GoodSo p) c p.given.name p.definitions (uses_of p) (each_good c p h)
 
 -- Its changes go on from what lasts
 
@@ -320,13 +211,20 @@ follows_steady (changes.Set new) planned d p s =
 follows_steady (changes.SetManager m) planned d p s = stale_steady planned.reroutes steps.DefXmitq p
 follows_steady (changes.Delete subject) planned d p s = dropped_steady subject p
 
+-- only whether a queue counts as TRIGGER again matters there
+switches_as : (change : ObjectChange) (a b : Planned) (d : Definitions) (p : Plain) → (b.switches_on ≡ true → a.switches_on ≡ true) → SwitchesAt change a d p → SwitchesAt change b d p
+switches_as (changes.Set new) a b d p e h = λ s. h (e s)
+switches_as (changes.SetManager m) a b d p e h = tt
+switches_as (changes.Delete subject) a b d p e h = tt
+
 planned_h : (r : Result Plan ScRefusal) (p : Plain) → IsSound p → AllGood p r → StepHarmless (planned_step r p.definitions) p
-planned_h (Ok (plans.Change planned)) p h good = (
-  steady_harmless (object_part planned p.definitions) p (sound_logs p h).laned
-      (tt, follows_steady planned.change planned p.definitions (apply (ChangeObjects planned.change) p) good.switches) (object_does planned p good.can good.switches),
-  refl,
-  tt,
-)
+planned_h (Ok (plans.Change planned)) p h good =
+    let switches : SwitchesAt planned.change planned p.definitions (apply (ChangeObjects planned.change) p) = switches_as planned.change _ planned p.definitions (apply (ChangeObjects planned.change) p) (λ s. s) good.switches in (
+      steady_harmless (object_part planned p.definitions) p (sound_logs p h).laned (tt, follows_steady planned.change planned p.definitions (apply (ChangeObjects planned.change) p) switches)
+          (object_does planned p good.can switches),
+      refl,
+      tt,
+    )
 planned_h (Ok (plans.Show shown)) p h good = tt
 planned_h (Err refusal) p h good = tt
 

@@ -13,7 +13,7 @@ use Rattle.mq_objects.specs.declared.change.ObjectChange.TheVariants as changes
 use Rattle.mq_objects.specs.Names.{local_of, name_of}
 use Rattle.mq_resolve.specs.declared.route.PathStep.{PathStep}
 use Rattle.mq_resolve.specs.declared.route.PathStep.TheVariants as steps
-use Rattle.mq_sc_apply.specs.declared.answers.Planned.{Planned}
+use Rattle.mq_spec_manager.specs.from_sc_apply.{ThePlanned as Planned}
 use Rattle.mq_calls.specs.State.{Plain, Queue, fresh_queue}
 use Rattle.mq_calls.specs.declared.state.Batch.{Batch}
 use Rattle.mq_calls.specs.State.Change.{ChangeObjects}

@@ -31,7 +31,7 @@ use Rattle.mq_calls.specs.declared.image.Image.{Image}
 use Rattle.mq_spec_log.specs.Shelves.{left, less_rows, on_all, shelved, added, added_all, removed, removed_all}
 use Rattle.mq_spec_log.specs.Applies.{can_add, can_add_all, can_remove, can_remove_all, stands_on}
 use Rattle.mq_law_log.specs.Keeps.{Told, Does, IsPlaceable, ArePlaceable, IsTakeable, AreTakeable, less_item}
-use Rattle.mq_law_log.proofs.Rows.{bool_case, ident_self}
+use Rattle.mq_law_log.proofs.Rows.{bool_case, same_self}
 use Rattle.mq_law_log.proofs.Shelves.{none_stands}
 use Rattle.mq_law_log.proofs.Changes.{left_lasts, placed_lasts, placed_aside, placed_is_there, tried_lasts, nothing_cleared, unit_holds_aside}
 
@@ -152,7 +152,7 @@ move_does from to bare l p take place =
     bool_case (is_persistent l.message)
     (λ b. is_persistent l.message ≡ b → IsTakeable b from l.message.ident (lasting p) → Told (if b then Some (moved_record from l) else None) p (lasting (apply_all (placed l.queue l.message) s)))
     (λ y e t. (
-      ap (λ (b : Bool). (b && can_remove r (lasting p)) && can_add a (removed r (lasting p))) (ident_self l.message.ident)
+      ap (λ (b : Bool). (b && can_remove r (lasting p)) && can_add a (removed r (lasting p))) (same_self l.message.ident)
           ∙ ap (λ (b : Bool). b && can_add a (removed r (lasting p))) t
           ∙ subst (λ (i : Image). can_add a i ≡ true) (left_lasts from (l.message.ident ∷ []) p) (placing_told l.queue l.message s place e).0,
       (placing_told l.queue l.message s place e).1 ∙ ap (added a) (left_lasts from (l.message.ident ∷ []) p),

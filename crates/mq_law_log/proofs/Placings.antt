@@ -9,6 +9,7 @@ use Rattle.mq_message.specs.declared.message.Message.{Message}
 use Rattle.mq_queue.specs.declared.row.Row.{Row}
 use Rattle.mq_queue.specs.Rows.{same_ident, has_ident, keep, insert_row}
 use Rattle.mq_queue.specs.Queues.{Lacks}
+use Rattle.mq_queue.proofs.Edits.{same_turned}
 use Rattle.mq_objects.specs.declared.object.LocalQueue.{LocalQueue}
 use Rattle.mq_objects.specs.Names.{local_of}
 use Rattle.mq_calls.specs.declared.state.Item.{Item}
@@ -58,9 +59,6 @@ pub laned_kept : (t : Row → Bool) (rows : List Row) → AreLaned rows → AreL
 laned_kept t [] h = tt
 laned_kept t (row ∷ rows) h = bool_case (t row) (λ b. AreLaned (if b then row ∷ keep t rows else keep t rows))
     (λ e. (all_kept (λ (other : Row). nat_le row.place.lane other.place.lane ≡ true) t rows h.0, laned_kept t rows h.1)) (λ e. laned_kept t rows h.1)
-
-turned_ident : (a b : Ident) → same_ident a b ≡ false → same_ident b a ≡ false
-turned_ident a b e = grind (arith, nat_tests)
 
 -- Queues that are set, found, mapped.
 pub all_found : (P : Queue → Type 0) (name : List ℕ) (qs : List Queue) → P (queue_in name []) → AllByRecursion P qs → P (queue_in name qs)
@@ -155,7 +153,7 @@ all_ready_placed : (from : List ℕ) (new : Message) (items : List Item) (p : Pl
     → AllByRecursion (ItemReady (apply_all (placed from new) p)) items
 all_ready_placed from new [] p a h = tt
 all_ready_placed from new (Put queue m ∷ items) p a h =
-    (ready_tried queue from m new.md.priority (apply (Places from new) p) (ready_placed queue from m new p (turned_ident m.ident new.ident a.0) h.0), all_ready_placed from new items p a.1 h.1)
+    (ready_tried queue from m new.md.priority (apply (Places from new) p) (ready_placed queue from m new p (same_turned new.ident m.ident ∙ a.0) h.0), all_ready_placed from new items p a.1 h.1)
 all_ready_placed from new (Take queue ident persistent ∷ items) p a h = (tt, all_ready_placed from new items p a.1 h.1)
 
 pub puts_one_by_one : (items : List Item) (p : Plain) → AreApart items → AllByRecursion (ItemReady p) items → ArePlaceable items p

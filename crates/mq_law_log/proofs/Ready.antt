@@ -10,6 +10,7 @@ use Rattle.mq_message.specs.declared.place.Holder.TheVariants as holders
 use Rattle.mq_queue.specs.declared.row.Row.{Row}
 use Rattle.mq_queue.specs.Rows.{same_ident, has_ident, keep, is_free}
 use Rattle.mq_queue.specs.Queues.{Lacks, AreDistinct}
+use Rattle.mq_queue.proofs.Edits.{same_turned}
 use Rattle.mq_calls.specs.declared.state.Item.{Item}
 use Rattle.mq_calls.specs.declared.state.Item.TheVariants.{Put, Take}
 use Rattle.mq_calls.specs.State.{Plain, Queue}
@@ -24,7 +25,7 @@ use Rattle.mq_spec_log.specs.Shelves.{shelf_in, on_all, less_rows}
 use Rattle.mq_spec_log.specs.Applies.{is_free_at}
 use Rattle.mq_law_log.specs.Keeps.{IsTakeable, AreTakeable, AreGone, less_item}
 use Rattle.mq_law_log.specs.Sound.{all_rows, Mem, IsItem, item_ident, AreApart, IsUnit, IsLogSound, AreFree}
-use Rattle.mq_law_log.proofs.Rows.{bool_case, ident_self, lacks_last}
+use Rattle.mq_law_log.proofs.Rows.{bool_case, same_self, lacks_last}
 use Rattle.mq_law_log.proofs.Shelves.{shelf_found}
 use Rattle.mq_law_log.proofs.Batches.{all_map}
 
@@ -88,16 +89,13 @@ lacking ident x [] h m = absurd m
 lacking ident x (y ∷ ys) h (inl e) = ap (has_ident ident) e ∙ h.0
 lacking ident x (y ∷ ys) h (inr m) = lacking ident x ys h.1 m
 
-ident_turned : (a b : Ident) → same_ident a b ≡ false → same_ident b a ≡ false
-ident_turned a b e = grind (arith, nat_tests)
-
 -- beside a row that doesn't last no row that lasts has its ident
 only_one : (bs : List Batch) (x : Row) (rows : List Row) → AreDistinct rows → Mem x rows → is_persistent x.message ≡ false → Lacks x.message.ident (lasting_rows bs rows)
 only_one bs x [] h m e = absurd m
 only_one bs x (y ∷ ys) h (inl z) e = subst (λ (b : Bool). Lacks x.message.ident (if b then lasting_row bs y ∷ lasting_rows bs ys else lasting_rows bs ys)) (sym e ∙ ap (λ (r : Row). is_persistent r.message) z)
     (lacks_last bs x.message.ident ys (subst (λ (r : Row). Lacks r.message.ident ys) (sym z) h.0))
 only_one bs x (y ∷ ys) h (inr m) e = bool_case (is_persistent y.message) (λ b. Lacks x.message.ident (if b then lasting_row bs y ∷ lasting_rows bs ys else lasting_rows bs ys))
-    (λ z. (ident_turned x.message.ident y.message.ident (lacking y.message.ident x ys h.0 m), only_one bs x ys h.1 m e)) (λ z. only_one bs x ys h.1 m e)
+    (λ z. (same_turned y.message.ident x.message.ident ∙ lacking y.message.ident x ys h.0 m, only_one bs x ys h.1 m e)) (λ z. only_one bs x ys h.1 m e)
 
 split : (bs : List Batch) (ident : Ident) (xs ys : List Row) → Lacks ident (lasting_rows bs (xs ++ ys)) → Lacks ident (lasting_rows bs xs) × Lacks ident (lasting_rows bs ys)
 split bs ident [] ys h = (tt, h)
@@ -115,7 +113,7 @@ stands_last bs x [] m e f = absurd m
 stands_last bs x (y ∷ ys) (inl z) e f = subst (λ (r : Row). list_any (is_free_at x.message.ident) (if is_persistent r.message then lasting_row bs r ∷ lasting_rows bs ys else lasting_rows bs ys) ≡ true) z
     (ap (λ (b : Bool). list_any (is_free_at x.message.ident) (if b then lasting_row bs x ∷ lasting_rows bs ys else lasting_rows bs ys)) e
     ∙ ap (λ (b : Bool). (b && has_ident x.message.ident x) || list_any (is_free_at x.message.ident) (lasting_rows bs ys)) f
-    ∙ ap (λ (b : Bool). b || list_any (is_free_at x.message.ident) (lasting_rows bs ys)) (ident_self x.message.ident))
+    ∙ ap (λ (b : Bool). b || list_any (is_free_at x.message.ident) (lasting_rows bs ys)) (same_self x.message.ident))
 stands_last bs x (y ∷ ys) (inr m) e f = bool_case (is_persistent y.message) (λ b. list_any (is_free_at x.message.ident) (if b then lasting_row bs y ∷ lasting_rows bs ys else lasting_rows bs ys) ≡ true)
     (λ z. ap (λ (b : Bool). is_free_at x.message.ident (lasting_row bs y) || b) (stands_last bs x ys m e f) ∙ bool_case (is_free_at x.message.ident (lasting_row bs y)) (λ b. (b || true) ≡ true) (λ w. refl) (λ w. refl))
     (λ z. stands_last bs x ys m e f)

@@ -9,6 +9,7 @@ use Rattle.mq_message.specs.declared.message.Ident.{Ident}
 use Rattle.mq_queue.specs.declared.row.Row.{Row}
 use Rattle.mq_queue.specs.Rows.{same_ident, has_ident, insert_row, keep, retag}
 use Rattle.mq_queue.specs.Queues.{Lacks}
+pub use Rattle.mq_queue.proofs.Edits.{same_self}
 use Rattle.mq_calls.specs.declared.state.Batch.{Batch}
 use Rattle.mq_calls.specs.Reads.{is_persistent}
 use Rattle.mq_calls.specs.Images.{lasting_row, lasting_rows}
@@ -23,9 +24,6 @@ name_is a b e = (bytes_eq-Decides a b).0 e
 
 pub name_self : (a : List ℕ) → bytes_eq a a ≡ true
 name_self a = (bytes_eq-Decides a a).1 refl
-
-pub ident_self : (i : Ident) → same_ident i i ≡ true
-ident_self i = grind (arith, nat_tests)
 
 -- a test that speaks of what lasts alone
 pub rows_kept : (bs : List Batch) (t : Row → Bool) → ((row : Row) → t (lasting_row bs row) ≡ t row) → (rows : List Row) → lasting_rows bs (keep t rows) ≡ keep t (lasting_rows bs rows)

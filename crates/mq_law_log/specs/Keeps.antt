@@ -24,7 +24,7 @@ use Rattle.mq_objects.specs.declared.object.Definitions.{Definitions}
 use Rattle.mq_objects.specs.declared.change.ObjectChange.{ObjectChange}
 use Rattle.mq_objects.specs.declared.change.ObjectChange.TheVariants as changes
 use Rattle.mq_objects.specs.Names.{name_of}
-use Rattle.mq_sc_apply.specs.declared.answers.Planned.{Planned}
+use Rattle.mq_spec_manager.specs.from_sc_apply.{ThePlanned as Planned}
 use Rattle.mq_spec_manager.specs.Commands.{renewed}
 use Rattle.mq_calls.specs.State.Change.{Connect, Disconnect, OpenHandle, CloseHandle, SetCursor, Pend, EndUnit, MakeStale, CountIdent, Seize, Unseize, SetBound, SetMoment}
 use Rattle.mq_spec_manager.specs.Agents.{doubts, Landing, Standing, standing_at, is_present, land, land_changes}

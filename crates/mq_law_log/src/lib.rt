@@ -13,7 +13,7 @@ ghost use Rattle.mq_message.specs.declared.place.Holder.TheVariants as holders;
 ghost use Rattle.mq_queue.specs.declared.row.Row.{Row};
 ghost use Rattle.mq_sync.specs.declared.unit.Unit.{Unit as Luw};
 ghost use Rattle.mq_sync.specs.declared.data.End.{End};
-ghost use Rattle.mq_sc_apply.specs.declared.answers.Planned.{Planned};
+ghost use Rattle.mq_spec_manager.specs.from_sc_apply.{ThePlanned as Planned};
 ghost use Rattle.mq_calls.specs.declared.answers.Hconn.{Hconn};
 ghost use Rattle.mq_calls.specs.declared.answers.Hobj.{Hobj};
 ghost use Rattle.mq_calls.specs.declared.answers.Appl.{Appl};

@@ -16,7 +16,7 @@ use Rattle.mq_calls.specs.declared.image.Image.{Image}
 use Rattle.mq_calls.specs.declared.image.Shelf.{Shelf}
 use Rattle.mq_calls.specs.Recovery.{IsImage, IsShelf, IsLasting, IsHeldWell, IsListed, AreApart, IsKnown, AreKnown}
 use Rattle.mq_law_manager.specs.Facts.{Mem, Chain, Differ, ident_of, IsOf, AreLaned}
-use Rattle.mq_law_manager.proofs.Lists.{bool_case, any_mem, ident_self, name_yes}
+use Rattle.mq_law_manager.proofs.Lists.{bool_case, any_mem, same_self, name_yes}
 use Rattle.mq_law_manager.proofs.Numbered.{ImageRests, rows_on}
 
 -- All of a list, by what is in it
@@ -58,7 +58,7 @@ each P none [] h name = none
 each P none (s ∷ ss) h name = bool_case (bytes_eq name s.name) (λ b. P (if b then s.rows else rows_on name ss)) (λ e. h s (inl refl)) (λ e. each P none ss (λ t m. h t (inr m)) name)
 
 not_same : (a b : Ident) → same_ident a b ≡ false → a ≢ b
-not_same a b e w = cc (e, ap (λ (i : Ident). same_ident i b) w, ident_self b)
+not_same a b e w = cc (e, ap (λ (i : Ident). same_ident i b) w, same_self b)
 
 differing : (rows : List Row) → Chain (λ (x y : Row). same_ident x.message.ident y.message.ident ≡ false) rows → Differ ident_of rows
 differing [] h = tt
@@ -89,7 +89,7 @@ listed : (q : List ℕ) (i : Ident) (o : Option InDoubt) → IsListed q i o → 
 listed q i None h = h
 listed q i (Some d) h = any_mem i d.idents h.1
 
-abbrev the_batch : List ℕ → Option Holder → List ℕ
+abbrev pub the_batch : List ℕ → Option Holder → List ℕ
 the_batch d None = d
 the_batch d (Some (holders.Unit n)) = d
 the_batch d (Some (holders.Batch c)) = c

@@ -18,17 +18,16 @@ use Rattle.mq_objects.specs.declared.change.ObjectChange.{ObjectChange}
 use Rattle.mq_objects.specs.declared.change.ObjectChange.TheVariants as changes
 use Rattle.mq_objects.specs.Names.{Queues, name_of, local_of, named, object_in, is_object, is_kind}
 use Rattle.mq_objects.specs.Settings.{set_all, set_all_manager}
-use Rattle.mq_resolve.specs.declared.route.PathStep.{PathStep}
-use Rattle.mq_resolve.specs.declared.route.PathStep.TheVariants as steps
+use Rattle.mq_calls.specs.from_resolve.{PathStep}
+use Rattle.mq_calls.specs.from_resolve.PathStepVariants as steps
 use Rattle.mq_calls.specs.declared.commands.ScRefusal.{ScRefusal}
 use Rattle.mq_calls.specs.declared.commands.ScRefusal.TheVariants as refusals
 use Rattle.mq_calls.specs.declared.records.LogRecord.TheVariants as records
-use Rattle.mq_sc_apply.specs.declared.answers.Planned.{Planned}
-use Rattle.mq_sc_apply.specs.declared.answers.Plan.{Plan}
-use Rattle.mq_sc_apply.specs.declared.answers.Plan.TheVariants as plans
-use Rattle.mq_sc_apply.specs.Commands.{plan, to_change, to_show}
-use Rattle.mq_sc_apply.specs.Displayed.{display}
-use Rattle.mq_sc_apply.specs.Planned.{define, define_at, defined_object, changed, is_used, changes_rows, is_filled, alter, alter_at, alter_good, bad_in, switches_on, alter_manager, default_changes, delete, delete_at, is_on_path, is_sent_from, is_busy}
+use Rattle.mq_spec_manager.specs.from_sc_apply.{Plan, ThePlanned as Planned}
+use Rattle.mq_spec_manager.specs.from_sc_apply.PlanVariants as plans
+use Rattle.mq_spec_manager.specs.from_sc_apply.Commands.{plan, to_change, to_show}
+use Rattle.mq_spec_manager.specs.from_sc_apply.Displayed.{display}
+use Rattle.mq_spec_manager.specs.from_sc_apply.Planned.{define, define_at, defined_object, changed, is_used, changes_rows, is_filled, alter, alter_at, alter_good, bad_in, switches_on, alter_manager, default_changes, delete, delete_at, is_on_path, is_sent_from, is_busy}
 use Rattle.mq_calls.specs.declared.commands.Shown.{Shown}
 use Rattle.mq_calls.specs.State.{Plain}
 use Rattle.mq_calls.specs.State.Change.{ChangeObjects, Renew, DropQueue, SwitchOn, MakeStale}

@@ -79,7 +79,7 @@ frozen noted left p h =
     same : (q : Queue) → (kept_in Nonpersistent q).name ≡ q.name
     same q = λ i. q.name
 
-stopped : (n : ℕ) (parts : List Part) (left : ℕ) (p : Plain) → IsSound p → AllKeep IsSound parts p → IsFrozen (stopped_at n parts left p)
+pub stopped : (n : ℕ) (parts : List Part) (left : ℕ) (p : Plain) → IsSound p → AllKeep IsSound parts p → IsFrozen (stopped_at n parts left p)
 stopped n [] left p h k = sound_still p h
 stopped zero (part ∷ parts) left p h k = frozen (note_of part part.forced) left p h
 stopped (suc n) (part ∷ parts) left p h k = stopped n parts left (do_part part p) k.0 k.1

@@ -13,8 +13,8 @@ use Rattle.mq_queue.specs.Rows.{has_ident}
 use Rattle.mq_objects.specs.declared.object.LocalQueue.{LocalQueue}
 use Rattle.mq_objects.specs.declared.object.Process.{Process}
 use Rattle.mq_objects.specs.Names.{local_of, locals_of, process_of, channel_of, is_transmission}
-use Rattle.mq_resolve.specs.declared.route.Route.{Route}
-use Rattle.mq_resolve.specs.Resolved.{resolve}
+use Rattle.mq_calls.specs.from_resolve.{Route}
+use Rattle.mq_calls.specs.from_resolve.Resolved.{resolve}
 use Rattle.mq_sync.specs.declared.unit.Unit.{Unit as Luw}
 use Rattle.mq_calls.specs.declared.answers.Hconn.{Hconn}
 use Rattle.mq_calls.specs.declared.answers.Hobj.{Hobj}

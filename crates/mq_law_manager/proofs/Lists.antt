@@ -9,6 +9,7 @@ use Rattle.mq_message.specs.declared.message.Ident.{Ident}
 use Rattle.mq_queue.specs.declared.row.Row.{Row}
 use Rattle.mq_queue.specs.Rows.{same_ident, insert_row, keep, retag}
 use Rattle.mq_queue.specs.Queues.{Lacks, AreDistinct as RowsDistinct}
+pub use Rattle.mq_queue.proofs.Edits.{same_self}
 use Rattle.mq_law_manager.specs.View.{inserted}
 use Rattle.mq_law_manager.specs.Facts.{Mem, Differ, ident_of}
 
@@ -29,9 +30,6 @@ eqb_self a = grind (arith, nat_tests)
 pub ident_yes : (a b : Ident) → same_ident a b ≡ true → a ≡ b
 ident_yes a b e = grind (arith, nat_tests)
 
-pub ident_self : (a : Ident) → same_ident a a ≡ true
-ident_self a = grind (arith, nat_tests)
-
 pub ident_no : (a b : Ident) → a ≢ b → same_ident a b ≡ false
 ident_no a b ne = is_false (same_ident a b) (λ t. ne (ident_yes a b t))
 
@@ -42,7 +40,7 @@ any_mem i (x ∷ xs) e = bool_case (same_ident i x) (λ b. same_ident i x ≡ b 
 
 pub mem_any : (i : Ident) (is : List Ident) → Mem i is → list_any (same_ident i) is ≡ true
 mem_any i [] m = absurd m
-mem_any i (x ∷ xs) (inl e) = ap (λ (j : Ident). same_ident i j || list_any (same_ident i) xs) (sym e) ∙ ap (λ (b : Bool). b || list_any (same_ident i) xs) (ident_self i)
+mem_any i (x ∷ xs) (inl e) = ap (λ (j : Ident). same_ident i j || list_any (same_ident i) xs) (sym e) ∙ ap (λ (b : Bool). b || list_any (same_ident i) xs) (same_self i)
 mem_any i (x ∷ xs) (inr m) = or_right (same_ident i x) (list_any (same_ident i) xs) (mem_any i xs m)
   where
     or_right : (a b : Bool) → b ≡ true → (a || b) ≡ true
@@ -166,4 +164,4 @@ pub it_is : (h row : Row) → is_it h row ≡ true → h.message.ident ≡ row.m
 it_is h row e = ident_yes h.message.ident row.message.ident e
 
 pub not_it : (h row : Row) → is_it h row ≡ false → h.message.ident ≢ row.message.ident
-not_it h row e w = cc (e, ap (λ (i : Ident). same_ident i row.message.ident) w, ident_self row.message.ident)
+not_it h row e w = cc (e, ap (λ (i : Ident). same_ident i row.message.ident) w, same_self row.message.ident)

@@ -1,6 +1,6 @@
 -- Objects by name after one is set or deleted; what a command sets has the kind and the name of what was there.
 use Rattle.std.proofs.Common.{ℕ, ◌≡◌, ◌⊎◌, Bool, true, false, List, [], ◌∷◌, refl, ap, sym, ◌∙◌, inl, inr}
-use Rattle.std.specs.Prelude.{Option, Some, None, if◌then◌else◌, ◌&&◌, filter}
+use Rattle.std.specs.Prelude.{Option, Some, None, if◌then◌else◌, ◌&&◌, ◌==◌, filter}
 use Rattle.std.specs.Str.{bytes_eq}
 use Rattle.mq_objects.specs.declared.object.LocalQueue.{LocalQueue}
 use Rattle.mq_objects.specs.declared.object.AliasQueue.{AliasQueue}
@@ -17,20 +17,40 @@ use Rattle.mq_objects.specs.Names.{Space, Queues, Channels, Processes, same_spac
 use Rattle.mq_objects.specs.Changed.{set_in, delete_in}
 use Rattle.mq_objects.specs.Defaults.{new_object}
 use Rattle.mq_objects.specs.Settings.{set_local, set_alias, set_remote, set_channel, set_process, set_object, set_all}
-use Rattle.mq_sc_apply.specs.Planned.{defined_object, is_type_setting}
+use Rattle.mq_spec_manager.specs.from_sc_apply.Planned.{defined_object, is_type_setting}
 use Rattle.mq_law_manager.specs.Facts.{Mem, AreOnce, is_local}
 use Rattle.mq_law_manager.proofs.Lists.{bool_case}
 use Rattle.mq_law_manager.proofs.Named.{name_is, name_yes}
+
+-- Kinds of objects, as numbers
+
+abbrev pub rank : Object → ℕ
+rank (objects.Local q) = 0
+rank (objects.Alias q) = 1
+rank (objects.Remote q) = 2
+rank (objects.Channel c) = 3
+rank (objects.Process p) = 4
+
+local_rank : (o : Object) → is_local o ≡ (rank o == 0)
+local_rank (objects.Local q) = refl
+local_rank (objects.Alias q) = refl
+local_rank (objects.Remote q) = refl
+local_rank (objects.Channel c) = refl
+local_rank (objects.Process p) = refl
+
+-- objects of one kind are local alike
+pub ranked_local : (a b : Object) → rank a ≡ rank b → is_local a ≡ is_local b
+ranked_local a b e = local_rank a ∙ ap (λ (n : ℕ). n == 0) e ∙ sym (local_rank b)
 
 -- A setting changes neither kind nor name
 
 pub record IsAlike (a b : Object) : Type 0 where
   pub space : space_of a ≡ space_of b
   pub name : name_of a ≡ name_of b
-  pub local : is_local a ≡ is_local b
+  pub kind : rank a ≡ rank b
 
 pub alike_on : (a b c : Object) → IsAlike a b → IsAlike b c → IsAlike a c
-alike_on a b c x y = record { space = x.space ∙ y.space; name = x.name ∙ y.name; local = x.local ∙ y.local }
+alike_on a b c x y = record { space = x.space ∙ y.space; name = x.name ∙ y.name; kind = x.kind ∙ y.kind }
 
 local_name : (s : Setting) (q : LocalQueue) → (set_local s q).name ≡ q.name
 local_name (settings.DefaultPriority n) q = refl
@@ -53,14 +73,14 @@ process_name (settings.ApplId text) p = refl
 process_name s p = refl
 
 set_alike : (s : Setting) (o : Object) → IsAlike (set_object s o) o
-set_alike s (objects.Local q) = record { space = refl; name = local_name s q; local = refl }
-set_alike s (objects.Alias q) = record { space = refl; name = alias_name s q; local = refl }
-set_alike s (objects.Remote q) = record { space = refl; name = remote_name s q; local = refl }
-set_alike s (objects.Channel c) = record { space = refl; name = channel_name s c; local = refl }
-set_alike s (objects.Process p) = record { space = refl; name = process_name s p; local = refl }
+set_alike s (objects.Local q) = record { space = refl; name = local_name s q; kind = refl }
+set_alike s (objects.Alias q) = record { space = refl; name = alias_name s q; kind = refl }
+set_alike s (objects.Remote q) = record { space = refl; name = remote_name s q; kind = refl }
+set_alike s (objects.Channel c) = record { space = refl; name = channel_name s c; kind = refl }
+set_alike s (objects.Process p) = record { space = refl; name = process_name s p; kind = refl }
 
 pub all_alike : (ss : List Setting) (o : Object) → IsAlike (set_all ss o) o
-all_alike [] o = record { space = refl; name = refl; local = refl }
+all_alike [] o = record { space = refl; name = refl; kind = refl }
 all_alike (s ∷ ss) o = alike_on (set_all ss (set_object s o)) (set_object s o) o (all_alike ss (set_object s o)) (set_alike s o)
 
 pub defined_alike : (s : Subject) (given : List Setting) → IsAlike (defined_object s given) (new_object s)
@@ -81,33 +101,36 @@ new_name (subjects.Remote n) = refl
 new_name (subjects.Channel n) = refl
 new_name (subjects.Process n) = refl
 
--- an object of the kind that a command names is local where the command's is
+-- an object of the kind that a command names
+pub rank_kind : (s : Subject) (o : Object) → is_kind s o ≡ true → rank (new_object s) ≡ rank o
+rank_kind (subjects.Local n) (objects.Local q) e = refl
+rank_kind (subjects.Local n) (objects.Alias q) e = absurd cc
+rank_kind (subjects.Local n) (objects.Remote q) e = absurd cc
+rank_kind (subjects.Local n) (objects.Channel q) e = absurd cc
+rank_kind (subjects.Local n) (objects.Process q) e = absurd cc
+rank_kind (subjects.Alias n) (objects.Local q) e = absurd cc
+rank_kind (subjects.Alias n) (objects.Alias q) e = refl
+rank_kind (subjects.Alias n) (objects.Remote q) e = absurd cc
+rank_kind (subjects.Alias n) (objects.Channel q) e = absurd cc
+rank_kind (subjects.Alias n) (objects.Process q) e = absurd cc
+rank_kind (subjects.Remote n) (objects.Local q) e = absurd cc
+rank_kind (subjects.Remote n) (objects.Alias q) e = absurd cc
+rank_kind (subjects.Remote n) (objects.Remote q) e = refl
+rank_kind (subjects.Remote n) (objects.Channel q) e = absurd cc
+rank_kind (subjects.Remote n) (objects.Process q) e = absurd cc
+rank_kind (subjects.Channel n) (objects.Local q) e = absurd cc
+rank_kind (subjects.Channel n) (objects.Alias q) e = absurd cc
+rank_kind (subjects.Channel n) (objects.Remote q) e = absurd cc
+rank_kind (subjects.Channel n) (objects.Channel q) e = refl
+rank_kind (subjects.Channel n) (objects.Process q) e = absurd cc
+rank_kind (subjects.Process n) (objects.Local q) e = absurd cc
+rank_kind (subjects.Process n) (objects.Alias q) e = absurd cc
+rank_kind (subjects.Process n) (objects.Remote q) e = absurd cc
+rank_kind (subjects.Process n) (objects.Channel q) e = absurd cc
+rank_kind (subjects.Process n) (objects.Process q) e = refl
+
 pub kind_local : (s : Subject) (o : Object) → is_kind s o ≡ true → is_local (new_object s) ≡ is_local o
-kind_local (subjects.Local n) (objects.Local q) e = refl
-kind_local (subjects.Local n) (objects.Alias q) e = absurd cc
-kind_local (subjects.Local n) (objects.Remote q) e = absurd cc
-kind_local (subjects.Local n) (objects.Channel q) e = absurd cc
-kind_local (subjects.Local n) (objects.Process q) e = absurd cc
-kind_local (subjects.Alias n) (objects.Local q) e = absurd cc
-kind_local (subjects.Alias n) (objects.Alias q) e = refl
-kind_local (subjects.Alias n) (objects.Remote q) e = refl
-kind_local (subjects.Alias n) (objects.Channel q) e = refl
-kind_local (subjects.Alias n) (objects.Process q) e = refl
-kind_local (subjects.Remote n) (objects.Local q) e = absurd cc
-kind_local (subjects.Remote n) (objects.Alias q) e = refl
-kind_local (subjects.Remote n) (objects.Remote q) e = refl
-kind_local (subjects.Remote n) (objects.Channel q) e = refl
-kind_local (subjects.Remote n) (objects.Process q) e = refl
-kind_local (subjects.Channel n) (objects.Local q) e = absurd cc
-kind_local (subjects.Channel n) (objects.Alias q) e = refl
-kind_local (subjects.Channel n) (objects.Remote q) e = refl
-kind_local (subjects.Channel n) (objects.Channel q) e = refl
-kind_local (subjects.Channel n) (objects.Process q) e = refl
-kind_local (subjects.Process n) (objects.Local q) e = absurd cc
-kind_local (subjects.Process n) (objects.Alias q) e = refl
-kind_local (subjects.Process n) (objects.Remote q) e = refl
-kind_local (subjects.Process n) (objects.Channel q) e = refl
-kind_local (subjects.Process n) (objects.Process q) e = refl
+kind_local s o e = ranked_local (new_object s) o (rank_kind s o e)
 
 -- Look-ups
 
@@ -127,7 +150,7 @@ space_self Queues = refl
 space_self Channels = refl
 space_self Processes = refl
 
-both : (a b : Bool) → (a && b) ≡ true → (a ≡ true) × (b ≡ true)
+pub both : (a b : Bool) → (a && b) ≡ true → (a ≡ true) × (b ≡ true)
 both true true e = (refl, refl)
 both true false e = absurd cc
 both false b e = absurd cc

@@ -20,16 +20,15 @@ use Rattle.mq_objects.specs.Settings.{set_all, set_all_manager}
 use Rattle.mq_calls.specs.declared.commands.ScRefusal.{ScRefusal}
 use Rattle.mq_calls.specs.declared.commands.ScRefusal.TheVariants as refusals
 use Rattle.mq_calls.specs.declared.commands.Shown.{Shown}
-use Rattle.mq_sc_apply.specs.declared.answers.Planned.{Planned}
-use Rattle.mq_sc_apply.specs.declared.answers.Plan.{Plan}
-use Rattle.mq_sc_apply.specs.declared.answers.Plan.TheVariants as plans
-use Rattle.mq_sc_apply.specs.Commands.{plan, to_change, to_show}
-use Rattle.mq_sc_apply.specs.Displayed.{display}
-use Rattle.mq_sc_apply.specs.Uses.{Uses}
-use Rattle.mq_sc_apply.specs.Planned.{define, define_at, defined_object, changed, changes_usage, is_used, leads_elsewhere, changes_rows, is_filled, alter, alter_at, alter_good, bad_in, switches_on, alter_manager, default_changes, delete, delete_at, is_on_path, is_sent_from, is_busy}
+use Rattle.mq_spec_manager.specs.from_sc_apply.{Plan, ThePlanned as Planned}
+use Rattle.mq_spec_manager.specs.from_sc_apply.PlanVariants as plans
+use Rattle.mq_spec_manager.specs.from_sc_apply.Commands.{plan, to_change, to_show}
+use Rattle.mq_spec_manager.specs.from_sc_apply.Displayed.{display}
+use Rattle.mq_spec_manager.specs.from_sc_apply.Uses.{Uses}
+use Rattle.mq_spec_manager.specs.from_sc_apply.Planned.{define, define_at, defined_object, changed, changes_usage, is_used, leads_elsewhere, changes_rows, is_filled, alter, alter_at, alter_good, bad_in, switches_on, alter_manager, default_changes, delete, delete_at, is_on_path, is_sent_from, is_busy}
 use Rattle.mq_law_manager.specs.Facts.{is_local}
 use Rattle.mq_law_manager.proofs.Lists.{bool_case}
-use Rattle.mq_law_manager.proofs.Objects.{all_alike, defined_alike, new_space, new_name, kind_local, found_object, object_is}
+use Rattle.mq_law_manager.proofs.Objects.{all_alike, defined_alike, new_space, new_name, rank, ranked_local, rank_kind, found_object, object_is}
 
 -- WHAT A CHANGE KEEPS TO
 -- the object of this one's name
@@ -40,6 +39,7 @@ object_at new d = object_in (space_of new) (name_of new) d.objects
 -- form; only a local queue counts as TRIGGER again.
 pub record IsSetOver (old new : Object) (on : Bool) (d : Definitions) (u : Uses) : Type 0 where
   pub found : object_at new d ≡ Some old
+  pub alike : rank new ≡ rank old
   pub kind : is_local new ≡ is_local old
   pub local : on ≡ true → is_local old ≡ true
   pub sent : (changes_usage old new && is_sent_from old u) ≡ false
@@ -111,11 +111,12 @@ found_as s new o d space name e = ap (λ (x : Space). object_in x (name_of new) 
 row_has : (P : ObjectChange → Bool → Bool → Type 0) (b : Bool) (e : ScRefusal) (rest : Result Planned ScRefusal) → (b ≡ false → PlannedHas P rest) → PlannedHas P (if b then Err e else rest)
 row_has P b e rest k = bool_case b (λ t. b ≡ t → PlannedHas P (if t then Err e else rest)) (λ z w. tt) (λ z w. k w) refl
 
-changed_has : (P : ObjectChange → Bool → Bool → Type 0) (w : Command) (d : Definitions) (u : Uses) (force : Bool) (old new : Object) (on : Bool) → EachChange P w d u → object_at new d ≡ Some old → is_local new ≡ is_local old → (on ≡ true → is_local old ≡ true)
+changed_has : (P : ObjectChange → Bool → Bool → Type 0) (w : Command) (d : Definitions) (u : Uses) (force : Bool) (old new : Object) (on : Bool) → EachChange P w d u → object_at new d ≡ Some old → rank new ≡ rank old → (on ≡ true → is_local old ≡ true)
     → PlannedHas P (changed force old new on u)
 changed_has P w d u force old new on h found kind local = row_has P (is_used force old new u) refusals.InUse _ (λ e. row_has P (changes_rows old new && is_filled old u) refusals.NotEmpty _ (λ n. h.over old new on (record {
   found = found;
-  kind = kind;
+  alike = kind;
+  kind = ranked_local new old kind;
   local = local;
   sent = none_middle (not force && leads_elsewhere old new && is_on_path old u) (changes_usage old new && is_sent_from old u) (is_busy old u) e;
   filled = n;
@@ -130,14 +131,14 @@ define_has P w d u c (Some old) h e =
     let new : Object = defined_object c.subject c.settings in
     row_has P (not c.replace || not (is_kind c.subject old)) refusals.Exists _ (λ k.
     changed_has P w d u false old new false h (found_as c.subject new (Some old) d (a.space ∙ new_space c.subject) (a.name ∙ new_name c.subject) e)
-    (a.local ∙ kind_local c.subject old (not_false (is_kind c.subject old) (no_left (not c.replace) (not (is_kind c.subject old)) k))) (λ s. absurd cc))
+    (a.kind ∙ rank_kind c.subject old (not_false (is_kind c.subject old) (no_left (not c.replace) (not (is_kind c.subject old)) k))) (λ s. absurd cc))
 
 good_has : (P : ObjectChange → Bool → Bool → Type 0) (w : Command) (d : Definitions) (u : Uses) (c : Alter) (old : Object) (o : Option Keyword) → EachChange P w d u → named c.subject d ≡ Some old → PlannedHas P (alter_good o c old u)
 good_has P w d u c old (Some keyword) h e = tt
 good_has P w d u c old None h e =
     let k = all_alike c.settings old in
     let is = object_is (subject_space c.subject) (subject_name c.subject) old (found_object (subject_space c.subject) (subject_name c.subject) d.objects old e) in
-    changed_has P w d u c.force old (set_all c.settings old) (switches_on old c.settings) h (found_as c.subject (set_all c.settings old) (Some old) d (k.space ∙ sym is.0) (k.name ∙ sym is.1) e) k.local (switched_local old c.settings)
+    changed_has P w d u c.force old (set_all c.settings old) (switches_on old c.settings) h (found_as c.subject (set_all c.settings old) (Some old) d (k.space ∙ sym is.0) (k.name ∙ sym is.1) e) k.kind (switched_local old c.settings)
 
 alter_has : (P : ObjectChange → Bool → Bool → Type 0) (w : Command) (d : Definitions) (u : Uses) (c : Alter) (o : Option Object) → EachChange P w d u → named c.subject d ≡ o → PlannedHas P (alter_at c o u)
 alter_has P w d u c None h e = tt

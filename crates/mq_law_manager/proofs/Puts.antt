@@ -7,8 +7,8 @@ use Rattle.mq_codes.specs.declared.reason.Reason.TheVariants as reasons
 use Rattle.mq_message.specs.declared.message.Ident.{Ident}
 use Rattle.mq_message.specs.declared.message.Md.{Md}
 use Rattle.mq_message.specs.declared.message.Message.{Message}
-use Rattle.mq_resolve.specs.declared.route.Route.{Route}
-use Rattle.mq_resolve.specs.Resolved.{resolve}
+use Rattle.mq_calls.specs.from_resolve.{Route}
+use Rattle.mq_calls.specs.from_resolve.Resolved.{resolve}
 use Rattle.mq_calls.specs.declared.answers.Hconn.{Hconn}
 use Rattle.mq_calls.specs.declared.answers.Hobj.{Hobj}
 use Rattle.mq_calls.specs.declared.answers.Open.{Open}

@@ -15,8 +15,8 @@ use Rattle.mq_queue.specs.Rows.{same_ident, has_ident}
 use Rattle.mq_objects.specs.declared.object.LocalQueue.{LocalQueue}
 use Rattle.mq_objects.specs.Names.{local_of, channel_of, process_of, is_transmission}
 use Rattle.mq_calls.specs.Recovery.{routes}
-use Rattle.mq_resolve.specs.declared.route.Route.{Route}
-use Rattle.mq_resolve.specs.Resolved.{resolve}
+use Rattle.mq_calls.specs.from_resolve.{Route}
+use Rattle.mq_calls.specs.from_resolve.Resolved.{resolve}
 use Rattle.mq_sync.specs.declared.unit.Unit.{Unit as Luw}
 use Rattle.mq_sync.specs.declared.data.InDoubt.{InDoubt}
 use Rattle.mq_sync.specs.declared.data.ReceiverData.{ReceiverData}
@@ -45,7 +45,7 @@ use Rattle.mq_law_manager.specs.View.{View, view, puts_in, items_of}
 use Rattle.mq_law_manager.specs.Facts.{Mem, ident_of, IsOf, Sound, Holds, AreNamed, IsFit}
 use Rattle.mq_law_manager.specs.Seen.{goes_if}
 use Rattle.mq_law_manager.specs.Kept.{Keeps}
-use Rattle.mq_law_manager.proofs.Lists.{bool_case, ident_yes, ident_self, one_row}
+use Rattle.mq_law_manager.proofs.Lists.{bool_case, ident_yes, same_self, one_row}
 use Rattle.mq_law_manager.proofs.Apart.{IsNew}
 use Rattle.mq_law_manager.proofs.Named as named
 use Rattle.mq_law_manager.proofs.Named.{name_turned}
@@ -64,7 +64,7 @@ find_none i (x ∷ xs) h e m = bool_case (has_ident i x) (λ b. has_ident i x �
     (λ z w f. absurd cc) (λ z w f. at w (λ k. find_none i xs h f k) m) refl e
   where
     at : has_ident i x ≡ false → (Mem h xs → h.message.ident ≢ i) → Mem h (x ∷ xs) → h.message.ident ≢ i
-    at w f (inl k) = λ y. cc (w, ap (λ (r : Row). same_ident r.message.ident i) k, ap (λ (j : Ident). same_ident j i) y, ident_self i)
+    at w f (inl k) = λ y. cc (w, ap (λ (r : Row). same_ident r.message.ident i) k, ap (λ (j : Ident). same_ident j i) y, same_self i)
     at w f (inr k) = f k
 
 row_absent : (i : Ident) (qs : List Queue) → row_of i qs ≡ None → (d : List ℕ) (h : Row) → Mem h (queue_in d qs).rows → i ≢ h.message.ident
@@ -108,14 +108,14 @@ row_there i (q ∷ qs) at n e = by (λ f. row_there i qs at n.1 f) (find (has_id
 
 -- Uncommitted puts are looked for
 
-or_none : (a b : Bool) → (a || b) ≡ false → (a ≡ false) × (b ≡ false)
+pub or_none : (a b : Bool) → (a || b) ≡ false → (a ≡ false) × (b ≡ false)
 or_none false false e = (refl, refl)
 or_none false true e = absurd cc
 or_none true b e = absurd cc
 
 put_absent : (i : Ident) (items : List Item) (a : Add) → list_any (has_put i) items ≡ false → Mem a (puts_in items) → i ≢ a.message.ident
 put_absent i [] a e m = absurd m
-put_absent i (Put queue message ∷ items) a e (inl m) = λ y. cc ((or_none (same_ident i message.ident) (list_any (has_put i) items) e).0, ident_self i, ap (same_ident i) (y ∙ ap (λ (x : Add). x.message.ident) m))
+put_absent i (Put queue message ∷ items) a e (inl m) = λ y. cc ((or_none (same_ident i message.ident) (list_any (has_put i) items) e).0, same_self i, ap (same_ident i) (y ∙ ap (λ (x : Add). x.message.ident) m))
 put_absent i (Put queue message ∷ items) a e (inr m) = put_absent i items a (or_none (same_ident i message.ident) (list_any (has_put i) items) e).1 m
 put_absent i (Take queue ident persistent ∷ items) a e m = put_absent i items a e m
 

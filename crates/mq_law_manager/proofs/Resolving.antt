@@ -11,14 +11,11 @@ use Rattle.mq_objects.specs.declared.object.Object.{Object}
 use Rattle.mq_objects.specs.declared.object.Object.TheVariants as objects
 use Rattle.mq_objects.specs.declared.object.Definitions.{Definitions}
 use Rattle.mq_objects.specs.Names.{queue_of, as_local, local_of, is_transmission}
-use Rattle.mq_resolve.specs.declared.route.PathStep.{PathStep}
-use Rattle.mq_resolve.specs.declared.route.PathStep.TheVariants as steps
-use Rattle.mq_resolve.specs.declared.route.RouteEnd.{RouteEnd}
-use Rattle.mq_resolve.specs.declared.route.RouteEnd.TheVariants.{Local, Via}
-use Rattle.mq_resolve.specs.declared.route.Route.{Route}
-use Rattle.mq_resolve.specs.declared.way.Way.{Way}
-use Rattle.mq_resolve.specs.Resolved.{is_local, is_xmitq, is_transmission_queue, is_blank, remote_name, remote_manager, xmitq, target, transmission, way_steps, via, remote_rows, remote_table, by_definition, here, look_up_rows, look_up, whole_rows, resolve, end_stands}
-use Rattle.mq_resolve.proofs.Laws.{first_row-each, RouteStands, resolve-stands}
+use Rattle.mq_calls.specs.from_resolve.{PathStep, Route, RouteEnd, Way}
+use Rattle.mq_calls.specs.from_resolve.PathStepVariants as steps
+use Rattle.mq_calls.specs.from_resolve.RouteEndVariants.{Local, Via}
+use Rattle.mq_calls.specs.from_resolve.Resolved.{is_local, is_xmitq, is_transmission_queue, is_blank, remote_name, remote_manager, xmitq, target, transmission, way_steps, via, remote_rows, remote_table, by_definition, here, look_up_rows, look_up, whole_rows, resolve, end_stands}
+use Rattle.mq_calls.proofs.from_resolve.Laws.{first_row-each, RouteStands, resolve-stands}
 use Rattle.mq_calls.specs.declared.answers.Open.{Open}
 use Rattle.mq_calls.specs.State.{Plain}
 use Rattle.mq_calls.specs.declared.state.Connection.{Connection}

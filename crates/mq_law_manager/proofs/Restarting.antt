@@ -17,6 +17,7 @@ use Rattle.mq_law_manager.specs.View.{view}
 use Rattle.mq_law_manager.specs.Facts.{Mem, Differ, ident_of, IsOf, AreLaned, AreStill}
 use Rattle.mq_law_manager.proofs.Lists.{bool_case}
 use Rattle.mq_law_manager.proofs.Numbered.{ImageRests, rows_on}
+use Rattle.mq_law_manager.proofs.Beginning.{the_batch}
 
 -- What lasts of rows
 
@@ -64,11 +65,6 @@ no_unit : (bs : List Batch) (b : Option Holder) (n : ℕ) → rests_by bs b ≢ 
 no_unit bs None n e = cc e
 no_unit bs (Some (holders.Unit k)) n e = cc e
 no_unit bs (Some (holders.Batch c)) n e = bool_case (has_batch c bs) (λ t. (if t then None else Some (holders.Batch c)) ≡ Some (holders.Unit n) → ⊥) (λ z w. cc w) (λ z w. cc w) e
-
-abbrev the_batch : List ℕ → Option Holder → List ℕ
-the_batch d None = d
-the_batch d (Some (holders.Unit n)) = d
-the_batch d (Some (holders.Batch c)) = c
 
 in_doubt : (bs : List Batch) (b : Option Holder) (c : List ℕ) → rests_by bs b ≡ Some (holders.Batch c) → (b ≡ Some (holders.Batch c)) × (has_batch c bs ≡ false)
 in_doubt bs None c e = absurd cc

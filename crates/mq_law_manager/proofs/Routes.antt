@@ -19,7 +19,7 @@ use Rattle.mq_queue.specs.Queues.{freed}
 use Rattle.mq_objects.specs.declared.object.LocalQueue.{LocalQueue}
 use Rattle.mq_objects.specs.declared.object.Definitions.{Definitions}
 use Rattle.mq_objects.specs.Names.{local_of}
-use Rattle.mq_resolve.specs.declared.route.PathStep.{PathStep}
+use Rattle.mq_calls.specs.from_resolve.{PathStep}
 use Rattle.mq_sync.specs.declared.data.InDoubt.{InDoubt}
 use Rattle.mq_calls.specs.declared.records.Add.{Add}
 use Rattle.mq_calls.specs.declared.state.Item.TheVariants.{Put, Take}
@@ -229,7 +229,7 @@ names_total = nat_list_cmp_total
 pub before_trans : (a b c : List ℕ) → comes_before a b ≡ true → comes_before b c ≡ true → comes_before a c ≡ true
 before_trans a b c x y = ap is_lt (names_total.trans a b c (is_less (slice_cmp nat_cmp a b) x) (is_less (slice_cmp nat_cmp b c) y))
 
-turned_less : (o : Ordering) → is_eq o ≡ false → is_lt o ≡ false → is_lt (ordering_reverse o) ≡ true
+pub turned_less : (o : Ordering) → is_eq o ≡ false → is_lt o ≡ false → is_lt (ordering_reverse o) ≡ true
 turned_less Less e f = absurd cc
 turned_less Equal e f = absurd cc
 turned_less Greater e f = refl

@@ -4,12 +4,12 @@ use Rattle.std.proofs.Common.{ℕ, Bool, not, List, [], ◌∷◌}
 use Rattle.std.specs.Prelude.{Option, Some, None, Result, Ok, Err}
 use Rattle.mq_message.specs.declared.message.Md.{Md}
 use Rattle.mq_codes.specs.declared.reason.Reason.{Reason}
-use Rattle.mq_resolve.specs.declared.route.Route.{Route}
-use Rattle.mq_resolve.specs.Resolved.{resolve}
+use Rattle.mq_calls.specs.from_resolve.{Route}
+use Rattle.mq_calls.specs.from_resolve.Resolved.{resolve}
 use Rattle.mq_objects.specs.declared.command.Command.{Command}
-use Rattle.mq_sc_apply.specs.declared.answers.Plan.{Plan}
-use Rattle.mq_sc_apply.specs.declared.answers.Plan.TheVariants as plans
-use Rattle.mq_sc_apply.specs.Commands.{plan}
+use Rattle.mq_spec_manager.specs.from_sc_apply.{Plan}
+use Rattle.mq_spec_manager.specs.from_sc_apply.PlanVariants as plans
+use Rattle.mq_spec_manager.specs.from_sc_apply.Commands.{plan}
 use Rattle.mq_calls.specs.declared.answers.Appl.{Appl}
 use Rattle.mq_codes.specs.declared.reason.Reason.TheVariants as reasons
 use Rattle.mq_calls.specs.declared.commands.ScRefusal.TheVariants as refusals

@@ -19,7 +19,7 @@ use Rattle.mq_calls.specs.Changes.{selects, retag_if, release_if}
 use Rattle.mq_law_manager.specs.View.{View, Taken, at_name, at_number, kept_all, retagged_all}
 use Rattle.mq_law_manager.specs.Facts.{Mem, Differ, put_ident, Holds, AreTaken, AreApart, AreBatched}
 use Rattle.mq_law_manager.specs.Seen.{goes_if, held_if, freed_if, with_rows, place_in, empty_in, pend_in, with_unit}
-use Rattle.mq_law_manager.proofs.Lists.{bool_case, eqb_yes, eqb_self, ident_self, ident_no, name_self, name_yes, one_row}
+use Rattle.mq_law_manager.proofs.Lists.{bool_case, eqb_yes, eqb_self, same_self, ident_no, name_self, name_yes, one_row}
 use Rattle.mq_law_manager.proofs.Apart as apart
 use Rattle.mq_law_manager.proofs.Apart.{IsNew}
 use Rattle.mq_law_manager.proofs.TakenLaws as taken
@@ -108,7 +108,7 @@ gives v unborn h more = record { apart = apart.born v.rows v.puts v.unborn unbor
 
 -- which rows are meant: those of one ident on a queue
 pub among_one : (q : List ℕ) (i : Ident) (h : Row) → h.message.ident ≡ i → selects (Among q (i ∷ [])) q h ≡ true
-among_one q i h e = ap (λ (b : Bool). b && (same_ident h.message.ident i || false)) (name_self q) ∙ ap (λ (j : Ident). same_ident j i || false) e ∙ ap (λ (b : Bool). b || false) (ident_self i)
+among_one q i h e = ap (λ (b : Bool). b && (same_ident h.message.ident i || false)) (name_self q) ∙ ap (λ (j : Ident). same_ident j i || false) e ∙ ap (λ (b : Bool). b || false) (same_self i)
 
 pub among_other : (q : List ℕ) (i : Ident) (d : List ℕ) (h : Row) → h.message.ident ≢ i → selects (Among q (i ∷ [])) d h ≡ false
 among_other q i d h ne = ap (λ (b : Bool). bytes_eq d q && (b || false)) (ident_no h.message.ident i ne) ∙ both (bytes_eq d q)

@@ -17,19 +17,18 @@ use Rattle.mq_objects.specs.declared.change.ObjectChange.TheVariants as changes
 use Rattle.mq_objects.specs.Names.{Space, Queues, same_space, space_of, name_of, as_local, local_of, named, object_in, is_object, is_kind, subject_space, subject_name, is_transmission, is_by_priority}
 use Rattle.mq_objects.specs.Changed.{set_in}
 use Rattle.mq_objects.specs.Defaults.{new_object}
-use Rattle.mq_resolve.specs.declared.route.PathStep.{PathStep}
-use Rattle.mq_resolve.specs.declared.route.PathStep.TheVariants as steps
+use Rattle.mq_calls.specs.from_resolve.{PathStep}
+use Rattle.mq_calls.specs.from_resolve.PathStepVariants as steps
 use Rattle.mq_calls.specs.declared.commands.ScRefusal.{ScRefusal}
 use Rattle.mq_calls.specs.declared.commands.ScRefusal.TheVariants as refusals
 use Rattle.mq_calls.specs.declared.records.Add.{Add}
 use Rattle.mq_calls.specs.declared.records.LogRecord.TheVariants as records
 use Rattle.mq_calls.specs.declared.state.Item.{Item}
 use Rattle.mq_calls.specs.declared.state.Item.TheVariants.{Put, Take}
-use Rattle.mq_sc_apply.specs.declared.answers.Planned.{Planned}
-use Rattle.mq_sc_apply.specs.declared.answers.Plan.{Plan}
-use Rattle.mq_sc_apply.specs.declared.answers.Plan.TheVariants as plans
-use Rattle.mq_sc_apply.specs.Commands.{plan}
-use Rattle.mq_sc_apply.specs.Planned.{same_usage, same_delivery, leads_elsewhere, changes_rows, is_filled, is_on_path}
+use Rattle.mq_spec_manager.specs.from_sc_apply.{Plan, ThePlanned as Planned}
+use Rattle.mq_spec_manager.specs.from_sc_apply.PlanVariants as plans
+use Rattle.mq_spec_manager.specs.from_sc_apply.Commands.{plan}
+use Rattle.mq_spec_manager.specs.from_sc_apply.Planned.{same_usage, same_delivery, leads_elsewhere, changes_rows, is_filled, is_on_path}
 use Rattle.mq_message.specs.declared.message.Message.{Message}
 use Rattle.mq_message.specs.declared.place.Holder.TheVariants as holders
 use Rattle.mq_queue.specs.declared.row.Row.{Row}
@@ -59,6 +58,7 @@ use Rattle.mq_law_manager.proofs.Stocks.{tested_on}
 use Rattle.mq_law_manager.proofs.Objects.{kind_local, found_object, object_is, set_found, delete_found, once_set, once_delete}
 use Rattle.mq_law_manager.proofs.Planning.{EachChange, PlanHas, no_left, no_right, object_or, plan_has}
 use Rattle.mq_law_manager.proofs.Commanding.{object_name}
+pub use Rattle.mq_law_manager.proofs.Objects.{both as both_true}
 
 -- What a change of objects keeps to: one that sets an object finds none of its name or one that is a local queue where it is,
 -- of which it keeps the form where there are rows, and makes handles over it stale where it leads elsewhere; one that deletes
@@ -225,11 +225,6 @@ used_alike a b e = bool_case (is_transmission a) (λ t. (if t then is_transmissi
 
 pub given_alike : (a b : Delivery) → same_delivery a b ≡ true → is_by_priority a ≡ is_by_priority b
 given_alike a b e = bool_case (is_by_priority a) (λ t. (if t then is_by_priority b else not (is_by_priority b)) ≡ true → t ≡ is_by_priority b) (λ z w. sym w) (λ z w. bool_case (is_by_priority b) (λ t. not t ≡ true → false ≡ t) (λ y v. absurd cc) (λ y v. refl) w) e
-
-pub both_true : (a b : Bool) → (a && b) ≡ true → (a ≡ true) × (b ≡ true)
-both_true true true e = (refl, refl)
-both_true true false e = absurd cc
-both_true false b e = absurd cc
 
 formed_alike : (h : Row) (a b : LocalQueue) → same_form a b ≡ true → IsFormed (Some a) h → IsFormed (Some b) h
 formed_alike h a b e f =

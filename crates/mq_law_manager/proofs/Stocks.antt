@@ -15,8 +15,8 @@ use Rattle.mq_objects.specs.declared.object.Definitions.{Definitions}
 use Rattle.mq_objects.specs.declared.object.Object.{Object}
 use Rattle.mq_objects.specs.declared.object.Object.TheVariants as objects
 use Rattle.mq_objects.specs.Names.{queue_of, as_local, local_of, locals_of, channel_of, process_of, is_transmission}
-use Rattle.mq_resolve.specs.declared.route.Route.{Route}
-use Rattle.mq_resolve.specs.Resolved.{resolve}
+use Rattle.mq_calls.specs.from_resolve.{Route}
+use Rattle.mq_calls.specs.from_resolve.Resolved.{resolve}
 use Rattle.mq_sync.specs.declared.unit.Unit.{Unit as Luw}
 use Rattle.mq_sync.specs.declared.data.ReceiverData.{ReceiverData}
 use Rattle.mq_sync.specs.declared.data.InDoubt.{InDoubt}
@@ -67,7 +67,7 @@ use Rattle.mq_calls.specs.Recovery.{routes}
 use Rattle.std.specs.Str.{bytes_eq}
 use Rattle.mq_law_manager.specs.Facts.{Mem, Sound, IsStocked, IsFit, IsUnlisted, AreSorted, listed}
 use Rattle.mq_law_manager.specs.Kept.{Releases, IsListable, AllAsk, PartsAsk, StepKeeps}
-use Rattle.mq_law_manager.proofs.Lists.{bool_case, is_false, ident_yes, ident_self, one_row, mem_retag}
+use Rattle.mq_law_manager.proofs.Lists.{bool_case, is_false, ident_yes, same_self, one_row, mem_retag}
 use Rattle.mq_law_manager.proofs.Puts.{next_unborn}
 use Rattle.mq_law_manager.proofs.Named.{name_is, name_self}
 use Rattle.mq_law_manager.proofs.SeenLaws.{applied}
@@ -277,7 +277,7 @@ frees_ask [] p h = tt
 frees_ask (Put q m ∷ items) p h = frees_ask items p h
 frees_ask (Take q i b ∷ items) p h = (λ d x s m e k l. h.0 d x m e s.channel, frees_ask items (apply (Release (Among q (i ∷ [])) true) p) (all_loose_behind q i items p h.1))
 
-both_among : (a b : Bool) → (a && (b || false)) ≡ true → (a ≡ true) × (b ≡ true)
+pub both_among : (a b : Bool) → (a && (b || false)) ≡ true → (a ≡ true) × (b ≡ true)
 both_among true true e = (refl, refl)
 both_among true false e = absurd cc
 both_among false b e = absurd cc
@@ -539,7 +539,7 @@ AllStocked p (Ok l) = IsStocked (apply_all l.changes p)
 
 off_now : (i : Ident) (o : Option InDoubt) → Mem i (listed (less_ident i o)) → ⊥
 off_now i None m = m
-off_now i (Some d) m = cc ((mem_filter i (λ other. not (same_ident i other)) d.idents m).1, ident_self i)
+off_now i (Some d) m = cc ((mem_filter i (λ other. not (same_ident i other)) d.idents m).1, same_self i)
 
 all_off : (i : Ident) (sides : List SenderSide) → IsUnlisted i (off_lists i sides)
 all_off i sides s m n = let k = map_mem (off_list i) s sides m in off_now i k.0.hardened.in_doubt (subst (λ (x : SenderSide). Mem i (listed x.hardened.in_doubt)) k.2 n)

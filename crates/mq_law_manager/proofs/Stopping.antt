@@ -34,11 +34,7 @@ use Rattle.mq_law_manager.proofs.Steps.{goes, holds_mild, frees_mild, holds_plac
 use Rattle.mq_law_manager.proofs.Units.{behind}
 use Rattle.mq_law_manager.proofs.Removals.{mem_filter, among_rows}
 use Rattle.mq_law_manager.proofs.Batches.{frees_batch}
-
-both : (a b : Bool) → (a && b) ≡ true → (a ≡ true) × (b ≡ true)
-both true true e = (refl, refl)
-both true false e = absurd cc
-both false b e = absurd cc
+use Rattle.mq_law_manager.proofs.Objects.{both}
 
 pub take_mem : {A : Type 0} (x : A) (k : ℕ) (xs : List A) → Mem x (take k xs) → Mem x xs
 take_mem x zero xs m = absurd m

@@ -11,11 +11,11 @@ use Rattle.std.specs.List.{list_any}
 use Rattle.mq_objects.specs.declared.object.Object.{Object}
 use Rattle.mq_objects.specs.declared.object.Object.TheVariants as objects
 use Rattle.mq_objects.specs.Names.{local_of, is_object, space_of, name_of}
-pub use Rattle.mq_base.specs.Members.{Mem, Chain}
+pub use Rattle.mq_message.specs.from_base.Members.{Mem, Chain}
 use Rattle.mq_message.specs.declared.message.Message.{Message}
 use Rattle.mq_objects.specs.declared.object.LocalQueue.{LocalQueue}
 use Rattle.mq_objects.specs.declared.object.Definitions.{Definitions}
-use Rattle.mq_resolve.specs.declared.route.PathStep.TheVariants as steps
+use Rattle.mq_calls.specs.from_resolve.PathStepVariants as steps
 use Rattle.mq_calls.specs.State.{Plain, Queue}
 use Rattle.mq_calls.specs.declared.state.Batch.{Batch}
 use Rattle.mq_calls.specs.declared.state.Connection.{Connection}

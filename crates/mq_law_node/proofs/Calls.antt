@@ -6,8 +6,8 @@ use Rattle.mq_queue.specs.declared.row.Row.{Row}
 use Rattle.mq_objects.specs.declared.object.Definitions.{Definitions}
 use Rattle.mq_resolve.specs.declared.route.Route.{Route}
 use Rattle.mq_resolve.specs.Resolved.{resolve}
-use Rattle.mq_sc_apply.specs.declared.answers.Plan.{Plan}
-use Rattle.mq_sc_apply.specs.declared.answers.Plan.TheVariants as plans
+use Rattle.mq_spec_manager.specs.from_sc_apply.{Plan}
+use Rattle.mq_spec_manager.specs.from_sc_apply.PlanVariants as plans
 use Rattle.mq_calls.specs.declared.commands.ScRefusal.{ScRefusal}
 use Rattle.mq_calls.specs.declared.answers.Answer.{Answer}
 use Rattle.mq_calls.specs.declared.answers.Hconn.{Hconn}
@@ -29,11 +29,11 @@ use Rattle.mq_law_node.specs.Quiet.{all_call, parts_call, step_call, is_call}
 use Rattle.mq_law_node.proofs.Named.{bool_case}
 use Rattle.mq_calls.specs.declared.commands.ScRefusal.TheVariants as refusals
 use Rattle.mq_objects.specs.declared.command.Command.{Command}
-use Rattle.mq_sc_apply.specs.Commands.{plan}
+use Rattle.mq_spec_manager.specs.from_sc_apply.Commands.{plan}
 use Rattle.mq_law_seized.specs.Each.{IsCommon, is_common}
 use Rattle.mq_law_seized.proofs.CommonCalls.{follows_common, removal_common}
 use Rattle.mq_law_seized.proofs.Each.{all_weaker, parts_behind, parts_weaker, step_weaker}
-use Rattle.mq_law_manager.proofs.ShortSteps.{going_all, live_all, open_all, tested_all}
+use Rattle.mq_law_seized.proofs.from_law_manager.ShortSteps.{going_all, live_all, open_all, tested_all}
 
 -- what is common is a call's
 pub common_call : (c : Change) → is_common c ≡ true → is_call c ≡ true

@@ -24,7 +24,7 @@ use Rattle.mq_spec_node.specs.Deeds.{CanCome, Deed, Done, done}
 use Rattle.mq_spec_node.specs.Replays.{IsOwn}
 use Rattle.mq_spec_node.specs.Happens as happens
 use Rattle.mq_spec_node.specs.Happens.{IsDeed, IsEvent, choice_event, crashed, deed_of, event, remembering, timeout_of, turn_up, where_up}
-use Rattle.mq_law_manager.proofs.Untouched.{parts_running}
+use Rattle.mq_law_seized.proofs.from_law_manager.Untouched.{parts_running}
 use Rattle.mq_law_node.specs.Deeds.{DeedHas, HoldsBehind, HoldsUp, IsLasting}
 use Rattle.mq_law_node.proofs.NearTotal.{remembered_ends}
 

@@ -13,9 +13,9 @@ use Rattle.mq_spec_manager.specs.Conditions.{CanMove, HasFreeRow, is_ordinary}
 use Rattle.mq_spec_manager.specs.Heads.{is_dead}
 use Rattle.mq_spec_node.specs.Node.{Handler}
 use Rattle.mq_spec_node.specs.Handlers as handlers
-use Rattle.mq_law_manager.specs.Facts.{Differ, IsSound, Mem, ident_of}
-use Rattle.mq_law_manager.proofs.Lists.{bool_case, ident_self, ident_yes}
-use Rattle.mq_law_manager.proofs.Steps.{free_is}
+use Rattle.mq_law_seized.specs.from_law_manager.Facts.{Differ, IsSound, Mem, ident_of}
+use Rattle.mq_law_seized.proofs.from_law_manager.Lists.{bool_case, same_self, ident_yes}
+use Rattle.mq_law_seized.proofs.from_law_manager.Steps.{free_is}
 
 -- a row that is found is there, and passes; one that is there is found by its ident
 found_in : (test : Row → Bool) (rows : List Row) (x : Row) → find test rows ≡ Some x → Mem x rows × (test x ≡ true)
@@ -25,7 +25,7 @@ found_in test (r ∷ rows) x e = bool_case (test r) (λ t. test r ≡ t → (if 
 
 pub found_one : (rows : List Row) (x : Row) → Differ ident_of rows → Mem x rows → find (has_ident x.message.ident) rows ≡ Some x
 found_one [] x d n = absurd n
-found_one (r ∷ rows) x d (inl e) = ap (λ t. if t then Some r else find (has_ident x.message.ident) rows) (ap (λ (y : Row). same_ident y.message.ident x.message.ident) (sym e) ∙ ident_self x.message.ident) ∙ ap (λ y. Some y) (sym e)
+found_one (r ∷ rows) x d (inl e) = ap (λ t. if t then Some r else find (has_ident x.message.ident) rows) (ap (λ (y : Row). same_ident y.message.ident x.message.ident) (sym e) ∙ same_self x.message.ident) ∙ ap (λ y. Some y) (sym e)
 found_one (r ∷ rows) x d (inr n) = bool_case (same_ident r.message.ident x.message.ident) (λ t. same_ident r.message.ident x.message.ident ≡ t → (if t then Some r else find (has_ident x.message.ident) rows) ≡ Some x)
     (λ z w. absurd (d.0 x n (ident_yes r.message.ident x.message.ident w))) (λ z w. found_one rows x d.1 n) refl
 

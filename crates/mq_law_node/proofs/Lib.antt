@@ -29,3 +29,4 @@ pub mod FarAside
 pub mod NearDoes
 pub mod Deeds
 pub mod Letters
+pub mod from_law_seized

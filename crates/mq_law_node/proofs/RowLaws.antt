@@ -11,7 +11,7 @@ use Rattle.mq_calls.specs.Reads.{queue_in, stored}
 use Rattle.mq_calls.specs.Condition.{condition}
 use Rattle.mq_calls.specs.Changes.{apply, set_queue, lane_of, placed_in, kept_in, held_in, released_in, selects, retag_if, release_if, try_if, made_due, depth_type, forgotten}
 use Rattle.mq_law_node.specs.Rows.{RowKind, Same, Placed, Emptied, row_kind, rows_do, rows_at}
-use Rattle.mq_law_manager.proofs.Named.{found_name, queue_dropped, queue_mapped}
+use Rattle.mq_law_seized.proofs.from_law_manager.Named.{found_name, queue_dropped, queue_mapped}
 use Rattle.mq_law_node.proofs.Named.{bool_case, name_is, queue_set}
 
 -- a queue that is set anew, whose rows are told

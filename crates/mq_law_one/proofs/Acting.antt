@@ -60,7 +60,7 @@ use Rattle.mq_spec_node.specs.Replays.{IsOwn}
 use Rattle.mq_spec_network.specs.Ledger as ledgers
 use Rattle.mq_spec_network.specs.Ledger.{Ledger, Users, posted, take_all_gone, users_at}
 use Rattle.mq_spec_network.specs.Story.{Mem}
-use Rattle.mq_law_rows.proofs.Lists.{bool_case, name_self}
+use Rattle.mq_law_story.proofs.from_law_rows.Lists.{bool_case, name_self}
 use Rattle.mq_law_manager.specs.Facts.{AreOnce, IsSound, IsFrozen}
 use Rattle.mq_law_manager.proofs.Commanding.{command_keeps}
 use Rattle.mq_law_manager.proofs.StockCommands.{command_stocked}
@@ -77,7 +77,7 @@ use Rattle.mq_law_manager.proofs.ShortSteps as shorts
 use Rattle.mq_law_events.proofs.Halting as halting
 use Rattle.mq_law_events.proofs.Getting.{none_behind}
 use Rattle.mq_law_events.proofs.Serving.{serves, post_served}
-use Rattle.mq_law_seen.proofs.Bridges.{name_back}
+use Rattle.mq_law_story.proofs.from_law_seen.Bridges.{name_back}
 use Rattle.mq_law_manager.specs.Kept.{StepKeeps, AllKeep}
 use Rattle.mq_law_manager.proofs.Handling.{trigger_turn_keeps}
 use Rattle.mq_law_manager.proofs.Stocks.{trigger_stocked}

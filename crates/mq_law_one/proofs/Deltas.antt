@@ -81,7 +81,7 @@ use Rattle.mq_spec_node.specs.Happens.{handler_turn, crashed, event, IsEvent, Is
 use Rattle.mq_spec_node.specs.Status.{show_status, shown, status_line, is_asked}
 use Rattle.mq_spec_node.specs.Replays.{IsOwn}
 use Rattle.mq_spec_network.specs.Order.{unit_received}
-use Rattle.mq_law_rows.proofs.Lists.{bool_case}
+use Rattle.mq_law_story.proofs.from_law_rows.Lists.{bool_case}
 use Rattle.mq_law_events.proofs.Taking.{removed_all}
 use Rattle.mq_law_manager.proofs.ShortSteps.{tested_all, going_all, live_all, open_all}
 use Rattle.mq_law_one.specs.Alone.{IsOwnCall}
@@ -293,7 +293,7 @@ stop_quiet Up n = refl
 stop_quiet (Down noted starts) n = refl
 
 -- part of what is quiet is so
-filter_quiet : (f : Did → Bool) (ds : List Did) → IsQuiet ds → IsQuiet (filter f ds)
+pub filter_quiet : (f : Did → Bool) (ds : List Did) → IsQuiet ds → IsQuiet (filter f ds)
 filter_quiet f [] a = refl
 filter_quiet f (did.Received c u ∷ ds) a = absurd cc
 filter_quiet f (did.Placed q i dead ∷ ds) a = bool_case (f (did.Placed q i dead)) (λ t. IsQuiet (if t then did.Placed q i dead ∷ filter f ds else filter f ds)) (λ e. filter_quiet f ds a) (λ e. filter_quiet f ds a)

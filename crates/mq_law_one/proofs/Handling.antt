@@ -41,8 +41,8 @@ use Rattle.mq_spec_node.specs.Happens.{IsDeed, where_up, handler_turn, done_or, 
 use Rattle.mq_spec_network.specs.Ledger as ledgers
 use Rattle.mq_spec_network.specs.Ledger.{Ledger, posted, take_all_gone, move_all, received_on, receive_if}
 use Rattle.mq_spec_network.specs.Story.{Mem}
-use Rattle.mq_law_rows.specs.World.{ident_of}
-use Rattle.mq_law_rows.proofs.Lists.{ident_yes}
+use Rattle.mq_law_story.specs.from_law_rows.World.{ident_of}
+use Rattle.mq_law_story.proofs.from_law_rows.Lists.{ident_yes}
 use Rattle.mq_law_manager.specs.Kept.{AllKeep, StepKeeps}
 use Rattle.mq_law_manager.specs.Facts.{IsSound}
 use Rattle.mq_law_manager.proofs.Ending.{joined}

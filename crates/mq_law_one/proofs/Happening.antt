@@ -39,7 +39,7 @@ use Rattle.mq_law_events.specs.Tied.{Follow}
 use Rattle.mq_law_events.specs.Posting.{StepFollows, StopFollows}
 use Rattle.mq_law_events.proofs.Telling.{here_changed, else_then, else_users}
 use Rattle.mq_law_events.proofs.Calling.{calm_follows, calm_none}
-use Rattle.mq_law_log.specs.Restarts.{note_at}
+use Rattle.mq_law_found.specs.from_law_log.Restarts.{note_at}
 use Rattle.mq_law_found.specs.Finds.{StepNotes}
 use Rattle.mq_law_one.specs.Alone.{IsState, IsNotedAt, IsAt, Became}
 

@@ -19,11 +19,11 @@ use Rattle.mq_spec_network.specs.Apart.{apart_of}
 use Rattle.mq_spec_network.specs.Story.{Mem}
 use Rattle.mq_spec_network.specs.Promised.{AreImages}
 use Rattle.mq_spec_network.specs.Standing.{node_after, opening_managers}
-use Rattle.mq_law_rows.proofs.Lists.{name_self, mem_map}
-use Rattle.mq_law_seen.specs.Opening.{AreNamed}
-use Rattle.mq_law_seen.proofs.Bridges.{name_back}
-use Rattle.mq_law_seen.proofs.Images.{shelves_named}
-use Rattle.mq_law_seen.proofs.Openings.{openings_known}
+use Rattle.mq_law_story.proofs.from_law_rows.Lists.{name_self, mem_map}
+use Rattle.mq_law_story.specs.from_law_seen.Opening.{AreNamed}
+use Rattle.mq_law_story.proofs.from_law_seen.Bridges.{name_back}
+use Rattle.mq_law_story.proofs.from_law_seen.Images.{shelves_named}
+use Rattle.mq_law_story.proofs.from_law_seen.Openings.{openings_known}
 use Rattle.mq_law_story.proofs.Weaving.{manager_at}
 use Rattle.mq_law_story.proofs.Beginning.{managers_open}
 

@@ -7,3 +7,4 @@ pub mod Handling
 pub mod Deltas
 pub mod Ordinary
 pub mod Running
+pub mod from_law_story

@@ -41,10 +41,10 @@ use Rattle.mq_spec_network.specs.Order.{AllInOrderFrom, OrderAt, unit_received, 
 use Rattle.mq_spec_network.specs.Promised.{Premises, Promised}
 use Rattle.mq_spec_network.specs.Standing.{node_after, managers_at, opening_managers, opening_ledger, places_of, stored_standing}
 use Rattle.mq_spec_network.specs.Story.{Mem, Line, IsStory, part, entries_or, entries_at}
-use Rattle.mq_law_rows.specs.World.{Ghost, Inv}
-use Rattle.mq_law_rows.proofs.Lists.{map_mem, bool_case, eqb_self, eqb_yes, true_false}
-use Rattle.mq_law_seen.specs.Seen.{world_of, book_of}
-use Rattle.mq_law_seen.specs.Given.{given_by, is_given}
+use Rattle.mq_law_story.specs.from_law_rows.World.{Ghost, Inv}
+use Rattle.mq_law_story.proofs.from_law_rows.Lists.{map_mem, bool_case, eqb_self, eqb_yes, true_false}
+use Rattle.mq_law_story.specs.from_law_seen.Seen.{world_of, book_of}
+use Rattle.mq_law_story.specs.from_law_seen.Given.{given_by, is_given}
 use Rattle.mq_law_story.specs.Told.{IsTold as IsOperated}
 use Rattle.mq_law_story.proofs.Beginning.{images_have_the_facts}
 use Rattle.mq_law_story.proofs.Promising.{rows_promised, once_promised}

@@ -40,8 +40,8 @@ use Rattle.mq_spec_node.specs.Node.{Node, ReceiverEnd, SenderEnd, cable_of, end_
 use Rattle.mq_spec_node.specs.Node.ChannelEnd.{Receives, Sends}
 use Rattle.mq_spec_node.specs.Receivers.{is_receiver_defined, kept_seen, place_deed, receiver_deed, receiver_deed_by}
 use Rattle.mq_spec_node.specs.Senders.{after_timeout, prepare_deed, sender_deed, sender_deed_by, timeout_deed}
-use Rattle.mq_law_keys.specs.Keys.{IsKeyed}
-use Rattle.mq_law_keys.proofs.Telling.{end_mem, one_channel}
+use Rattle.mq_law_unshared.specs.from_law_keys.Keys.{IsKeyed}
+use Rattle.mq_law_unshared.proofs.from_law_keys.Telling.{end_mem, one_channel}
 use Rattle.mq_law_manager.specs.Facts.{Mem}
 use Rattle.mq_law_node.proofs.Named.{bool_case, end_other, name_is, name_self}
 use Rattle.mq_law_seized.specs.Seized.{AreSeized}

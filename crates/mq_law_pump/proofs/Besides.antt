@@ -53,7 +53,7 @@ use Rattle.mq_law_pump.proofs.Landing.{receivers_add_none, triggers_add_none}
 use Rattle.mq_law_pump.proofs.Leaving.{none_leaves}
 use Rattle.mq_law_pump.proofs.Moving.{fit_now, pops_as, pops_within, pushes_within, receives_move, sends_move, some_node, times_out_moves}
 use Rattle.mq_law_pump.proofs.Openings.{lane_stays}
-use Rattle.mq_law_pump.proofs.Seeing.{far_on, near_on}
+use Rattle.mq_law_pump.proofs.Seeing.{far_on, near_on, sees_on}
 use Rattle.mq_law_pump.proofs.Ways.{by_more, kept_if, laid_last, taken_first}
 
 apart_eq : (a b : ℕ) → (b ≡ a → ⊥) → (a == b) ≡ false
@@ -141,31 +141,18 @@ sees_beside w0 w m x j d l h quiet nb fb =
     let far = far_beside w m x d.receiver h.far h.receiver l.road h.far0 h.shows.takes h.far_needs fb in
     let out = way_beside d.out w m x (is_sender j) (is_receiver j) d.sender d.receiver h.shows.faultless.0 h.shows.out_within (λ z. (quiet.sends z).0) (λ z. (quiet.takes z).1) in
     let back = way_beside d.back w m x (is_receiver j) (is_sender j) d.receiver d.sender h.shows.faultless.1 h.shows.back_within (λ z. (quiet.takes z).0) (λ z. (quiet.sends z).1) in
-    record {
-      near = h.near;
-      far = h.far;
-      near0 = h.near0;
-      far0 = h.far0;
-      sender = h.sender;
-      receiver = h.receiver;
-      shows = record {
-        faultless = h.shows.faultless;
-        near_is = h.shows.near_is;
-        far_is = h.shows.far_is;
-        cables = h.shows.cables;
-        sends = near.0;
-        takes = far.0;
-        out = h.shows.out ∙ sym out.0;
-        back = h.shows.back ∙ sym back.0;
-        out_within = out.1;
-        back_within = back.1;
-      };
-      near0_is = h.near0_is;
-      far0_is = h.far0_is;
-      near_needs = near.1;
-      far_needs = far.1;
-      lane_needs = h.lane_needs;
-    }
+    sees_on w0 w (does m (x ∷ []) w) j d l l h h.sender h.receiver (record {
+      faultless = h.shows.faultless;
+      near_is = h.shows.near_is;
+      far_is = h.shows.far_is;
+      cables = h.shows.cables;
+      sends = near.0;
+      takes = far.0;
+      out = h.shows.out ∙ sym out.0;
+      back = h.shows.back ∙ sym back.0;
+      out_within = out.1;
+      back_within = back.1;
+    }) near.1 far.1 h.lane_needs
 
 -- AN ENTRY WHOSE DEED RAN
 -- at this manager, whatever a sender of the cable there may be

@@ -7,6 +7,7 @@ use Rattle.mq_message.specs.declared.place.Holder.{Holder}
 use Rattle.mq_queue.specs.declared.row.Row.{Row}
 use Rattle.mq_queue.specs.Queues.{AreDistinct, Lacks}
 use Rattle.mq_queue.specs.Rows.{is_free, keep, retag, same_ident}
+use Rattle.mq_queue.proofs.Edits.{same_self}
 use Rattle.mq_calls.specs.State.{Plain, Which}
 use Rattle.mq_calls.specs.State.Change.{Hold, Leave, Release}
 use Rattle.mq_calls.specs.State.Which.{Among}
@@ -19,7 +20,7 @@ use Rattle.mq_law_idle.proofs.Counted.{HoldsSo, holds_first, kept_rows, retagged
 use Rattle.mq_law_node.specs.Rows.{rows_at}
 use Rattle.mq_law_node.proofs.Named.{bool_case, name_self}
 use Rattle.mq_law_node.proofs.RowLaws.{rows_applied}
-use Rattle.mq_law_node.proofs.Batches.{filter_mem, ident_self}
+use Rattle.mq_law_node.proofs.Batches.{filter_mem}
 
 -- idents stand once
 none_has : (i : Ident) (rows : List Row) → Lacks i rows → NoneHas i rows
@@ -124,6 +125,6 @@ pub expire_less : (q : List ℕ) (past : Row → Bool) (x : Row) (xs : List Row)
 expire_less q past x xs p is =
     let mem : Mem x (filter past (filter is_free (rows_at q p))) = subst (Mem x) (sym is) (inl refl) in
     let inner : Mem x (filter is_free (rows_at q p)) = filter_mem x past (filter is_free (rows_at q p)) mem in
-    let gone : not (selects (Among q (idents_of (x ∷ xs))) q x) ≡ false = λ i. not (name_self q i && (ident_self x.message.ident i || list_any (same_ident x.message.ident) (idents_of xs))) in
+    let gone : not (selects (Among q (idents_of (x ∷ xs))) q x) ≡ false = λ i. not (name_self q i && (same_self x.message.ident i || list_any (same_ident x.message.ident) (idents_of xs))) in
     subst (λ (rs : List Row). free_in rs < free_in (rows_at q p)) (sym (rows_left q (Among q (idents_of (x ∷ xs))) p))
     (fewer_kept (λ (row : Row). not (selects (Among q (idents_of (x ∷ xs))) q row)) (rows_at q p) x (filter_mem x is_free (rows_at q p) inner) (filter_passes is_free (rows_at q p) x inner) gone)

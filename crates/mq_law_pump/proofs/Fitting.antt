@@ -14,7 +14,7 @@ use Rattle.mq_spec_manager.specs.Agents.{at_number, batch_idents, batch_queue, b
 use Rattle.mq_spec_node.specs.Node.{Node, SenderEnd, end_in}
 use Rattle.mq_spec_node.specs.Node.ChannelEnd.{Sends}
 use Rattle.mq_law_idle.specs.Counts.{held_in}
-use Rattle.mq_law_keys.proofs.Telling.{end_mem}
+use Rattle.mq_law_unshared.proofs.from_law_keys.Telling.{end_mem}
 use Rattle.mq_law_manager.specs.Facts.{Differ, IsBatched, ident_of}
 use Rattle.mq_law_manager.proofs.Lists.{ident_yes}
 use Rattle.mq_law_node.proofs.Batches.{found}

@@ -22,10 +22,12 @@ use Rattle.mq_receiver.specs.declared.turns.ReceiverDoes.TheVariants as takes
 use Rattle.mq_sender.specs.declared.state.Sender.{Sender}
 use Rattle.mq_sender.specs.declared.turns.SenderDoes.{SenderDoes}
 use Rattle.mq_sender.specs.declared.turns.SenderDoes.TheVariants as does_
+use Rattle.mq_sender.specs.States.{is_running}
 use Rattle.mq_sender.specs.Table.{is_ack, is_binding, is_err, is_status, is_waiting, sender_lines, sender_next, waits}
 use Rattle.mq_spec_manager.specs.Agents.{queue_of_sender}
 use Rattle.mq_calls.specs.State.{Plain}
 use Rattle.mq_calls.specs.State.Running.{Up}
+use Rattle.mq_calls.specs.Steps.{do_all}
 use Rattle.mq_spec_node.specs.Deeds.{Deed}
 use Rattle.mq_spec_node.specs.Doers.{by, is_receiver, is_sender}
 use Rattle.mq_spec_node.specs.Happens.{deed_of}
@@ -40,7 +42,7 @@ use Rattle.mq_spec_network.specs.Tasks.{Slot}
 use Rattle.mq_spec_network.specs.Turns.{Network, back_of, deed_at, does, node_at, node_of, out_of, waiting as first_lying}
 use Rattle.mq_law_channel.proofs.Told.{and_both, by_lines}
 use Rattle.mq_law_idle.specs.Counts.{free_in, held_in}
-use Rattle.mq_law_idle.specs.Lanes.{Lane}
+use Rattle.mq_law_idle.specs.Lanes.{Lane, lane}
 use Rattle.mq_law_idle.specs.Roads.{Road, laid, receiver_does, receiver_turn, sender_does, sender_timed_out, sender_turn, taken_by, taken_from, waiting}
 use Rattle.mq_law_idle.proofs.Less.{completes_waits, continues_waits, new_waits, repeats_waits, spoiled_waits, waits_same}
 use Rattle.mq_law_manager.proofs.Lists.{eqb_yes}
@@ -201,10 +203,77 @@ pub pushes_within : (pushes pops : List Entry) (x : Entry) → IsWithin pushes p
 pushes_within pushes pops x h = no_more (length (pops_of pops)) (length (frames_of pushes)) (length (frames_of (pushes ++ x ∷ []))) h
     (subst (λ (xs : List Lying). length (frames_of pushes) ≤ length xs) (sym (frames_more pushes x)) (offers_more x.effect.pushed (frames_of pushes)))
 
--- A SENDER'S TURN
+-- A WAY, AND ONE ENTRY MORE
+-- what lies on a way, and that no more was taken than that
+record WayIs (faults : List Fault) (pushes pops : List Entry) (seen : List Seen) : Type 0 where
+  is : seen ≡ seen_of (lying faults pushes pops)
+  within : IsWithin pushes pops
+
+-- behind an entry of the end that pushes there
+pushed_more : (fs : List Fault) (pushes pops pushes1 pops1 : List Entry) (x : Entry) (o : Option Frame) (seen : List Seen) → fs ≡ [] → pushes1 ≡ pushes ++ x ∷ [] → pops1 ≡ pops → x.effect.pushed ≡ o → WayIs fs pushes pops seen → WayIs fs pushes1 pops1 (laid o seen)
+pushed_more fs pushes pops pushes1 pops1 x o seen none mine theirs pushed h = record {
+  is = ap (laid o) (h.is ∙ ap (λ (f : List Fault). seen_of (lying f pushes pops)) none) ∙ sym (laid_last pushes pops x o h.within pushed) ∙ (λ i. seen_of (lying (sym none i) (sym mine i) (sym theirs i)));
+  within = subst (λ (ps : List Entry). IsWithin ps pops1) (sym mine) (subst (IsWithin (pushes ++ x ∷ [])) (sym theirs) (pushes_within pushes pops x h.within));
+}
+
+-- behind an entry of the end that pops there
+popped_more : (fs : List Fault) (pushes pops pushes1 pops1 : List Entry) (x : Entry) (seen : List Seen) → fs ≡ [] → pushes1 ≡ pushes → pops1 ≡ pops ++ x ∷ [] → (is_popped x ≡ true → waits (waiting seen) ≡ true) → WayIs fs pushes pops seen → WayIs fs pushes1 pops1 (behind_if (is_popped x) seen)
+popped_more fs pushes pops pushes1 pops1 x seen none theirs mine there h =
+    let clean : seen ≡ seen_of (lying [] pushes pops) = h.is ∙ ap (λ (f : List Fault). seen_of (lying f pushes pops)) none in
+    record {
+      is = ap (behind_if (is_popped x)) clean ∙ sym (taken_first pushes pops x) ∙ (λ i. seen_of (lying (sym none i) (sym theirs i) (sym mine i)));
+      within = subst (λ (ps : List Entry). IsWithin ps pops1) (sym theirs) (subst (IsWithin pushes) (sym mine) (pops_within pushes pops x h.within (λ p. ap (λ (xs : List Seen). waits (waiting xs)) (sym clean) ∙ there p)));
+    }
+
+-- WHAT A SENDER'S ENTRY LEAVES
+record SenderLeaves (w : Network) (k : ℕ) (c : CableLine) (l : Lane) (x : Entry) (o : Option Frame) : Type 0 where
+  still : (does c.sender (x ∷ []) w).done c.receiver ≡ w.done c.receiver
+  out : WayIs c.out (by (is_sender k) ((does c.sender (x ∷ []) w).done c.sender)) (by (is_receiver k) ((does c.sender (x ∷ []) w).done c.receiver)) (laid o l.road.out)
+  back : WayIs c.back (by (is_receiver k) ((does c.sender (x ∷ []) w).done c.receiver)) (by (is_sender k) ((does c.sender (x ∷ []) w).done c.sender)) (behind_if (is_popped x) l.road.back)
+
 by_here : (k : ℕ) (x : Entry) (es : List Entry) → x.actor ≡ actors.Sender k → by (is_sender k) (es ++ x ∷ []) ≡ by (is_sender k) es ++ x ∷ []
 by_here k x es a = by_more (is_sender k) es x ∙ ap (λ b. by (is_sender k) es ++ kept_if b x) (ap (is_sender k) a ∙ nat_self k)
 
+sender_leaves : (w : Network) (k : ℕ) (c : CableLine) (near far : Node) (e : SenderEnd) (r : ReceiverEnd) (l : Lane) (x : Entry) (o : Option Frame) → Shows w k c near far e r l → x.actor ≡ actors.Sender k → x.effect.pushed ≡ o → (is_popped x ≡ true → waits (waiting l.road.back) ≡ true)
+    → SenderLeaves w k c l x o
+sender_leaves w k c near far e r l x o h actor pushed there =
+    let v : Network = does c.sender (x ∷ []) w in
+    let still : v.done c.receiver ≡ w.done c.receiver = else_done w c.sender x c.receiver (two_managers w k c near far e r l h) in
+    let mine : by (is_sender k) (v.done c.sender) ≡ by (is_sender k) (w.done c.sender) ++ x ∷ [] = ap (by (is_sender k)) (here_done w c.sender x) ∙ by_here k x (w.done c.sender) actor in
+    let theirs : by (is_receiver k) (v.done c.receiver) ≡ by (is_receiver k) (w.done c.receiver) = ap (by (is_receiver k)) still in
+    record {
+      still = still;
+      out = pushed_more c.out (by (is_sender k) (w.done c.sender)) (by (is_receiver k) (w.done c.receiver)) (by (is_sender k) (v.done c.sender)) (by (is_receiver k) (v.done c.receiver)) x o l.road.out h.faultless.0 mine theirs pushed (record { is = h.out; within = h.out_within });
+      back = popped_more c.back (by (is_receiver k) (w.done c.receiver)) (by (is_sender k) (w.done c.sender)) (by (is_receiver k) (v.done c.receiver)) (by (is_sender k) (v.done c.sender)) x l.road.back h.faultless.1 theirs mine there (record { is = h.back; within = h.back_within });
+    }
+
+-- what is shown of the lane that it makes
+sender_shows : (w : Network) (k : ℕ) (c : CableLine) (near far : Node) (e : SenderEnd) (r : ReceiverEnd) (l : Lane) (x : Entry) (o : Option Frame) (d : Deed) (fresh : Bool) (road : Road) → Shows w k c near far e r l → SenderLeaves w k c l x o → Ran x (after near (w.done c.sender)) d
+    → end_in e.cable d.own.ends ≡ Some (Sends (record e { machine = road.sender })) → (is_running road.sender.state ≡ true → AreWithin (rows_of e.channel (do_all d.parts (after near (w.done c.sender)).manager)) road)
+    → road.receiver ≡ l.road.receiver → road.out ≡ laid o l.road.out → road.back ≡ behind_if (is_popped x) l.road.back → Shows (does c.sender (x ∷ []) w) k c near far (record e { machine = road.sender }) r (lane fresh road)
+sender_shows w k c near far e r l x o d fresh road h left did ends rows receiver out back =
+    let next : after near ((does c.sender (x ∷ []) w).done c.sender) ≡ (done_by x (after near (w.done c.sender))).next = next_node w c.sender x near in
+    record {
+      faultless = h.faultless;
+      near_is = h.near_is;
+      far_is = h.far_is;
+      cables = h.cables;
+      sends = record {
+        machine = refl;
+        here = ap (λ (z : Node). end_in e.cable z.own.ends) next ∙ ap (end_in e.cable) did.ends ∙ ends;
+        rows = λ on. subst (λ (z : Node). AreWithin (rows_of e.channel z.manager) road) (sym next) (subst (λ (z : Plain). AreWithin (rows_of e.channel z) road) (sym did.manager) (rows on));
+      };
+      takes = record {
+        machine = receiver ∙ h.takes.machine;
+        here = ap (λ (es : List Entry). end_in r.cable (after far es).own.ends) left.still ∙ h.takes.here;
+      };
+      out = out ∙ left.out.is;
+      back = back ∙ left.back.is;
+      out_within = left.out.within;
+      back_within = left.back.within;
+    }
+
+-- A SENDER'S TURN
 sends_at : (w : Network) (k : ℕ) (c : CableLine) (near far : Node) (e : SenderEnd) (r : ReceiverEnd) (l : Lane) (x : Entry) → Good (does c.sender (x ∷ []) w) → Shows w k c near far e r l → x.actor ≡ actors.Sender k → x.call ≡ calls.Turn
     → x.effect.popped ≡ popped_by (turn_in w Slot.Sends k c).seen (pushed_of (turn_in w Slot.Sends k c).deed) → SenderMoves w k c near far e r l c.sender x
 sends_at w k c near far e r l x g h actor call popped =
@@ -229,14 +298,9 @@ sends_at w k c near far e r l x g h actor call popped =
     let t : TurnsLane e n d l.road = sender_turns e n l.road x.stamp d h.sends fits (fit.distinct (queue_of_sender e.channel n.manager)) is in
     let road : Road = sender_turn t.turn l.road in
     let next : after near (v.done m) ≡ (done_by x n).next = next_node w m x near in
-    let apart : (c.receiver == m) ≡ false = two_managers w k c near far e r l h in
-    let still : v.done c.receiver ≡ w.done c.receiver = else_done w m x c.receiver apart in
     let told = told_here w m x near g h.near_is in
     let pushed : x.effect.pushed ≡ d.pushed = told.1.pushed ∙ did.pushed in
-    let mine : by (is_sender k) (v.done m) ≡ by (is_sender k) (w.done m) ++ x ∷ [] = ap (by (is_sender k)) (here_done w m x) ∙ by_here k x (w.done m) actor in
-    let theirs : by (is_receiver k) (v.done c.receiver) ≡ by (is_receiver k) (w.done c.receiver) = ap (by (is_receiver k)) still in
-    let way_back : seen_of (lying [] (by (is_receiver k) (w.done c.receiver)) (by (is_sender k) (w.done m))) ≡ l.road.back = sym (h.back ∙ ap (λ (fs : List Fault). seen_of (lying fs (by (is_receiver k) (w.done c.receiver)) (by (is_sender k) (w.done m)))) h.faultless.1) in
-    let way_out : seen_of (lying [] (by (is_sender k) (w.done m)) (by (is_receiver k) (w.done c.receiver))) ≡ l.road.out = sym (h.out ∙ ap (λ (fs : List Fault). seen_of (lying fs (by (is_sender k) (w.done m)) (by (is_receiver k) (w.done c.receiver)))) h.faultless.0) in
+    let left : SenderLeaves w k c l x d.pushed = sender_leaves w k c near far e r l x d.pushed h actor pushed (λ p. sym (pops_as x (waiting l.road.back) pops) ∙ p) in
     let takes_ : taken_from (sender_does t.turn l.road) l.road.back ≡ behind_if (is_popped x) l.road.back = taken_as (sender_does t.turn l.road) l.road.back (takes_seen l.road.sender (waiting l.road.back) t.turn.stock) ∙ ap (λ (b : Bool). behind_if b l.road.back) (sym (pops_as x (waiting l.road.back) pops)) in
     record {
       turn = t.turn;
@@ -246,32 +310,10 @@ sends_at w k c near far e r l x g h actor call popped =
       is = is;
       did = did;
       next = next;
-      still = still;
+      still = left.still;
       ends = t.ends;
       out = t.out;
-      shows = record {
-        faultless = h.faultless;
-        near_is = h.near_is;
-        far_is = h.far_is;
-        cables = h.cables;
-        sends = record {
-          machine = refl;
-          here = ap (λ (z : Node). end_in e.cable z.own.ends) next ∙ ap (end_in e.cable) did.ends ∙ t.ends;
-          rows = λ on. subst (λ (z : Node). AreWithin (rows_of e.channel z.manager) road) (sym next) (subst (λ (z : Plain). AreWithin (rows_of e.channel z) road) (sym did.manager) (t.rows on));
-        };
-        takes = record {
-          machine = t.receiver ∙ h.takes.machine;
-          here = ap (λ (es : List Entry). end_in r.cable (after far es).own.ends) still ∙ h.takes.here;
-        };
-        out = t.out ∙ ap (laid d.pushed) (sym way_out) ∙ sym (laid_last (by (is_sender k) (w.done m)) (by (is_receiver k) (w.done c.receiver)) x d.pushed h.out_within pushed)
-            ∙ (λ i. seen_of (lying (sym h.faultless.0 i) (sym mine i) (sym theirs i)));
-        back = t.back ∙ takes_ ∙ ap (behind_if (is_popped x)) (sym way_back) ∙ sym (taken_first (by (is_receiver k) (w.done c.receiver)) (by (is_sender k) (w.done m)) x)
-            ∙ (λ i. seen_of (lying (sym h.faultless.1 i) (sym theirs i) (sym mine i)));
-        out_within = (subst (λ (ps : List Entry). IsWithin ps (by (is_receiver k) (v.done c.receiver))) (sym mine) (subst (IsWithin (by (is_sender k) (w.done m) ++ x ∷ [])) (sym theirs)
-            (pushes_within (by (is_sender k) (w.done m)) (by (is_receiver k) (w.done c.receiver)) x h.out_within)));
-        back_within = (subst (λ (ps : List Entry). IsWithin ps (by (is_sender k) (v.done m))) (sym theirs) (subst (IsWithin (by (is_receiver k) (w.done c.receiver))) (sym mine)
-            (pops_within (by (is_receiver k) (w.done c.receiver)) (by (is_sender k) (w.done m)) x h.back_within (λ p. ap (λ (xs : List Seen). waits (waiting xs)) way_back ∙ sym (pops_as x (waiting l.road.back) pops) ∙ p))));
-      };
+      shows = sender_shows w k c near far e r l x d.pushed d l.fresh road h left did t.ends t.rows t.receiver t.out (t.back ∙ takes_);
     }
 
 pub sends_move : (w : Network) (k : ℕ) (c : CableLine) (near far : Node) (e : SenderEnd) (r : ReceiverEnd) (l : Lane) (m : ℕ) (x : Entry) → Good (does m (x ∷ []) w) → Shows w k c near far e r l → TakesTurn (turn_in w Slot.Sends k c) m x → SenderMoves w k c near far e r l m x
@@ -300,14 +342,9 @@ times_out_at w k c near far e r l x g h actor call popped =
     let did : Ran x n d = ran.ran wants in
     let t : TimesOutLane e n d l.road = sender_times_out e n l.road d h.sends is in
     let next : after near (v.done m) ≡ (done_by x n).next = next_node w m x near in
-    let apart : (c.receiver == m) ≡ false = two_managers w k c near far e r l h in
-    let still : v.done c.receiver ≡ w.done c.receiver = else_done w m x c.receiver apart in
     let told = told_here w m x near g h.near_is in
     let pushed : x.effect.pushed ≡ None = told.1.pushed ∙ did.pushed ∙ t.pushed in
-    let mine : by (is_sender k) (v.done m) ≡ by (is_sender k) (w.done m) ++ x ∷ [] = ap (by (is_sender k)) (here_done w m x) ∙ by_here k x (w.done m) actor in
-    let theirs : by (is_receiver k) (v.done c.receiver) ≡ by (is_receiver k) (w.done c.receiver) = ap (by (is_receiver k)) still in
-    let way_back : seen_of (lying [] (by (is_receiver k) (w.done c.receiver)) (by (is_sender k) (w.done m))) ≡ l.road.back = sym (h.back ∙ ap (λ (fs : List Fault). seen_of (lying fs (by (is_receiver k) (w.done c.receiver)) (by (is_sender k) (w.done m)))) h.faultless.1) in
-    let way_out : seen_of (lying [] (by (is_sender k) (w.done m)) (by (is_receiver k) (w.done c.receiver))) ≡ l.road.out = sym (h.out ∙ ap (λ (fs : List Fault). seen_of (lying fs (by (is_sender k) (w.done m)) (by (is_receiver k) (w.done c.receiver)))) h.faultless.0) in
+    let left : SenderLeaves w k c l x None = sender_leaves w k c near far e r l x None h actor pushed (λ p. absurd (true≢false (sym p ∙ none))) in
     record {
       waits = t.waits;
       deed = d;
@@ -315,32 +352,9 @@ times_out_at w k c near far e r l x g h actor call popped =
       is = is;
       did = did;
       next = next;
-      still = still;
+      still = left.still;
       ends = t.ends;
-      shows = record {
-        faultless = h.faultless;
-        near_is = h.near_is;
-        far_is = h.far_is;
-        cables = h.cables;
-        sends = record {
-          machine = refl;
-          here = ap (λ (z : Node). end_in e.cable z.own.ends) next ∙ ap (end_in e.cable) did.ends ∙ t.ends;
-          rows = λ on. subst (λ (z : Node). AreWithin (rows_of e.channel z.manager) (sender_timed_out l.road)) (sym next) (subst (λ (z : Plain). AreWithin (rows_of e.channel z) (sender_timed_out l.road)) (sym did.manager)
-              (record { free = (t.rows on).free; held = (t.rows on).held }));
-        };
-        takes = record {
-          machine = h.takes.machine;
-          here = ap (λ (es : List Entry). end_in r.cable (after far es).own.ends) still ∙ h.takes.here;
-        };
-        out = ap (laid None) (sym way_out) ∙ sym (laid_last (by (is_sender k) (w.done m)) (by (is_receiver k) (w.done c.receiver)) x None h.out_within pushed)
-            ∙ (λ i. seen_of (lying (sym h.faultless.0 i) (sym mine i) (sym theirs i)));
-        back = ap (λ (b : Bool). behind_if b l.road.back) (sym none) ∙ ap (behind_if (is_popped x)) (sym way_back) ∙ sym (taken_first (by (is_receiver k) (w.done c.receiver)) (by (is_sender k) (w.done m)) x)
-            ∙ (λ i. seen_of (lying (sym h.faultless.1 i) (sym theirs i) (sym mine i)));
-        out_within = (subst (λ (ps : List Entry). IsWithin ps (by (is_receiver k) (v.done c.receiver))) (sym mine) (subst (IsWithin (by (is_sender k) (w.done m) ++ x ∷ [])) (sym theirs)
-            (pushes_within (by (is_sender k) (w.done m)) (by (is_receiver k) (w.done c.receiver)) x h.out_within)));
-        back_within = (subst (λ (ps : List Entry). IsWithin ps (by (is_sender k) (v.done m))) (sym theirs) (subst (IsWithin (by (is_receiver k) (w.done c.receiver))) (sym mine)
-            (pops_within (by (is_receiver k) (w.done c.receiver)) (by (is_sender k) (w.done m)) x h.back_within (λ p. absurd (true≢false (sym p ∙ none))))));
-      };
+      shows = sender_shows w k c near far e r l x None d true (sender_timed_out l.road) h left did t.ends (λ on. record { free = (t.rows on).free; held = (t.rows on).held }) refl refl (ap (λ (b : Bool). behind_if b l.road.back) (sym none));
     }
 
 pub times_out_moves : (w : Network) (k : ℕ) (c : CableLine) (near far : Node) (e : SenderEnd) (r : ReceiverEnd) (l : Lane) (m : ℕ) (x : Entry) → Good (does m (x ∷ []) w) → Shows w k c near far e r l → TakesTurn (turn_in w Slot.TimesOut k c) m x → SenderTimesOut w k c near far e r l m x
@@ -438,10 +452,12 @@ receives_at w k c near far e r l x g h actor call popped =
     let pushed : x.effect.pushed ≡ d.pushed = told.1.pushed ∙ did.pushed in
     let mine : by (is_receiver k) (v.done m) ≡ by (is_receiver k) (w.done m) ++ x ∷ [] = ap (by (is_receiver k)) (here_done w m x) ∙ by_receiver k x (w.done m) actor in
     let theirs : by (is_sender k) (v.done c.sender) ≡ by (is_sender k) (w.done c.sender) = ap (by (is_sender k)) still in
-    let way_back : seen_of (lying [] (by (is_receiver k) (w.done m)) (by (is_sender k) (w.done c.sender))) ≡ l.road.back = sym (h.back ∙ ap (λ (fs : List Fault). seen_of (lying fs (by (is_receiver k) (w.done m)) (by (is_sender k) (w.done c.sender)))) h.faultless.1) in
-    let way_out : seen_of (lying [] (by (is_sender k) (w.done c.sender)) (by (is_receiver k) (w.done m))) ≡ l.road.out = sym (h.out ∙ ap (λ (fs : List Fault). seen_of (lying fs (by (is_sender k) (w.done c.sender)) (by (is_receiver k) (w.done m)))) h.faultless.0) in
     let does_so : receiver_next r.machine (waiting l.road.out) (is_receiver_defined r.channel n.manager.definitions) ≡ receiver_does t.turn l.road = (λ i. receiver_next (sym h.takes.machine i) (waiting l.road.out) (sym t.defined i)) in
     let it : TakesIt r.machine (is_receiver_defined r.channel n.manager.definitions) x l.road.out = takes_it r n x l.road.out seen0 sees pops0 (λ z. t.may.changed.0 (sym does_so ∙ z)) in
+    let out : WayIs c.out (by (is_sender k) (v.done c.sender)) (by (is_receiver k) (v.done m)) (behind_if (is_popped x) l.road.out) =
+    popped_more c.out (by (is_sender k) (w.done c.sender)) (by (is_receiver k) (w.done m)) (by (is_sender k) (v.done c.sender)) (by (is_receiver k) (v.done m)) x l.road.out h.faultless.0 theirs mine it.1 (record { is = h.out; within = h.out_within }) in
+    let back : WayIs c.back (by (is_receiver k) (v.done m)) (by (is_sender k) (v.done c.sender)) (laid d.pushed l.road.back) =
+    pushed_more c.back (by (is_receiver k) (w.done m)) (by (is_sender k) (w.done c.sender)) (by (is_receiver k) (v.done m)) (by (is_sender k) (v.done c.sender)) x d.pushed l.road.back h.faultless.1 mine theirs pushed (record { is = h.back; within = h.back_within }) in
     record {
       turn = t.turn;
       defined = t.defined;
@@ -472,14 +488,10 @@ receives_at w k c near far e r l x g h actor call popped =
           machine = refl;
           here = ap (λ (z : Node). end_in r.cable z.own.ends) next ∙ ap (end_in r.cable) did.ends ∙ t.ends;
         };
-        out = t.out ∙ ap (λ (y : ReceiverDoes). taken_by y l.road.out) (sym does_so) ∙ it.0 ∙ ap (behind_if (is_popped x)) (sym way_out) ∙ sym (taken_first (by (is_sender k) (w.done c.sender)) (by (is_receiver k) (w.done m)) x)
-            ∙ (λ i. seen_of (lying (sym h.faultless.0 i) (sym theirs i) (sym mine i)));
-        back = t.back ∙ ap (laid d.pushed) (sym way_back) ∙ sym (laid_last (by (is_receiver k) (w.done m)) (by (is_sender k) (w.done c.sender)) x d.pushed h.back_within pushed)
-            ∙ (λ i. seen_of (lying (sym h.faultless.1 i) (sym mine i) (sym theirs i)));
-        out_within = (subst (λ (ps : List Entry). IsWithin ps (by (is_receiver k) (v.done m))) (sym theirs) (subst (IsWithin (by (is_sender k) (w.done c.sender))) (sym mine)
-            (pops_within (by (is_sender k) (w.done c.sender)) (by (is_receiver k) (w.done m)) x h.out_within (λ p. ap (λ (xs : List Seen). waits (waiting xs)) way_out ∙ it.1 p))));
-        back_within = (subst (λ (ps : List Entry). IsWithin ps (by (is_sender k) (v.done c.sender))) (sym mine) (subst (IsWithin (by (is_receiver k) (w.done m) ++ x ∷ [])) (sym theirs)
-            (pushes_within (by (is_receiver k) (w.done m)) (by (is_sender k) (w.done c.sender)) x h.back_within)));
+        out = t.out ∙ ap (λ (y : ReceiverDoes). taken_by y l.road.out) (sym does_so) ∙ it.0 ∙ out.is;
+        back = t.back ∙ back.is;
+        out_within = out.within;
+        back_within = back.within;
       };
     }
   where

@@ -29,8 +29,8 @@ use Rattle.mq_law_pump.specs.Away.{AllAway, EachKeepsAway, EachPushesAway, Frame
 use Rattle.mq_law_pump.specs.Fit.{FitsSender, Good, IsFit}
 use Rattle.mq_law_pump.specs.Leaves.{EachDefinesNone, EachLeavesOwn, parts_define_none, parts_leave}
 use Rattle.mq_law_pump.specs.Rows.{rows_of}
-use Rattle.mq_law_pump.specs.Sees.{FarNeeds, IsServed, NearNeeds, Sees, Wants}
-use Rattle.mq_law_pump.specs.Shown.{ReceiverMoves, SenderMoves, SenderTimesOut}
+use Rattle.mq_law_pump.specs.Sees.{FarNeeds, IsServed, LaneNeeds, NearNeeds, Sees, Wants}
+use Rattle.mq_law_pump.specs.Shown.{ReceiverMoves, SenderMoves, SenderTimesOut, Shows}
 use Rattle.mq_law_pump.specs.Steady.{Moved, TimeoutFits}
 use Rattle.mq_law_pump.proofs.Below.{sends_below, takes_below, timed_below}
 use Rattle.mq_law_pump.proofs.Defining.{as_begun_behind, parts_same, receivers_define_none, senders_define_none, timeouts_define_none}
@@ -70,6 +70,24 @@ wants_before : (e : SenderEnd) (m : Sender) (l : Lane) (w : Road) → (is_runnin
 wants_before e m l w before (inl fresh) = inl fresh
 wants_before e m l w before (inr on) = inr (before on)
 
+-- the same nodes, with these ends
+pub sees_on : (w0 w v : Network) (k : ℕ) (c : CableLine) (l l1 : Lane) (h : Sees w0 w k c l) (e : SenderEnd) (r : ReceiverEnd) → Shows v k c h.near h.far e r l1 → NearNeeds (after h.near (v.done c.sender)) h.near0 h.far0 e → FarNeeds (after h.far (v.done c.receiver)) h.far0 r → LaneNeeds h.far0 e r l1
+    → Sees w0 v k c l1
+sees_on w0 w v k c l l1 h e r shows near_needs far_needs lane_needs = record {
+  near = h.near;
+  far = h.far;
+  near0 = h.near0;
+  far0 = h.far0;
+  sender = e;
+  receiver = r;
+  shows = shows;
+  near0_is = h.near0_is;
+  far0_is = h.far0_is;
+  near_needs = near_needs;
+  far_needs = far_needs;
+  lane_needs = lane_needs;
+}
+
 -- A SENDER'S TURN
 pub own_sends : (w0 w : Network) (k : ℕ) (c : CableLine) (m : ℕ) (x : Entry) (l : Lane) → Good (does m (x ∷ []) w) → Sees w0 w k c l → TakesTurn (turn_in w Slot.Sends k c) m x → Moved (Sees w0) (does m (x ∷ []) w) k c l
 own_sends w0 w k c m x l g h t =
@@ -87,25 +105,14 @@ own_sends w0 w k c m x l g h t =
     record {
       lane = lane l.fresh (sender_turn s.turn l.road);
       moves = inl (s.turn, s.may, refl);
-      sees = record {
-        near = h.near;
-        far = h.far;
-        near0 = h.near0;
-        far0 = h.far0;
-        sender = record h.sender { machine = machine };
-        receiver = h.receiver;
-        shows = s.shows;
-        near0_is = h.near0_is;
-        far0_is = h.far0_is;
-        near_needs = near_on n n1 h.near0 h.far0 h.sender machine s.deed h.near_needs is (subst EachDefinesNone s.is (senders_define_none x.stamp h.sender (waiting l.road.back) n)) before
-            (λ on. (subst (EachLeavesOwn q h.sender) s.is (senders_leave_own q x.stamp h.sender (waiting l.road.back) n h.shows.sends.here)) machine s.ends on);
-        far_needs = subst (λ (es : List Entry). FarNeeds (after h.far es) h.far0 h.receiver) (sym s.still) h.far_needs;
-        lane_needs = record {
-          served = λ wants. h.lane_needs.served (wants_before h.sender machine l (sender_turn s.turn l.road) before wants);
-          below = λ on. sends_below s.turn l.road (h.lane_needs.below (before on));
-          way = subst (WayAway h.far0) (sym s.out) (laid_away h.far0 s.deed.pushed l.road.out pushes h.lane_needs.way);
-        };
-      };
+      sees = sees_on w0 w v k c l (lane l.fresh (sender_turn s.turn l.road)) h (record h.sender { machine = machine }) h.receiver s.shows
+          (near_on n n1 h.near0 h.far0 h.sender machine s.deed h.near_needs is (subst EachDefinesNone s.is (senders_define_none x.stamp h.sender (waiting l.road.back) n)) before
+          (λ on. (subst (EachLeavesOwn q h.sender) s.is (senders_leave_own q x.stamp h.sender (waiting l.road.back) n h.shows.sends.here)) machine s.ends on))
+          (subst (λ (es : List Entry). FarNeeds (after h.far es) h.far0 h.receiver) (sym s.still) h.far_needs) (record {
+            served = λ wants. h.lane_needs.served (wants_before h.sender machine l (sender_turn s.turn l.road) before wants);
+            below = λ on. sends_below s.turn l.road (h.lane_needs.below (before on));
+            way = subst (WayAway h.far0) (sym s.out) (laid_away h.far0 s.deed.pushed l.road.out pushes h.lane_needs.way);
+          });
     }
 
 -- A TIMEOUT
@@ -128,25 +135,14 @@ own_times_out w0 w k c m x l g h quiet t =
     record {
       lane = lane true (sender_timed_out l.road);
       moves = inr (inr (s.waits, quiet, ap (λ (y : Receiver). is_stopped y.state) h.shows.takes.machine ∙ served.stopped, (h.lane_needs.below running).known, refl));
-      sees = record {
-        near = h.near;
-        far = h.far;
-        near0 = h.near0;
-        far0 = h.far0;
-        sender = record h.sender { machine = machine };
-        receiver = h.receiver;
-        shows = s.shows;
-        near0_is = h.near0_is;
-        far0_is = h.far0_is;
-        near_needs = near_on n n1 h.near0 h.far0 h.sender machine s.deed h.near_needs is (subst EachDefinesNone s.is (timeouts_define_none h.sender n)) (λ on. running)
-            (λ on. (subst (EachLeavesOwn q h.sender) s.is (timeouts_leave_own q h.sender n h.shows.sends.here)) machine s.ends on);
-        far_needs = subst (λ (es : List Entry). FarNeeds (after h.far es) h.far0 h.receiver) (sym s.still) h.far_needs;
-        lane_needs = record {
-          served = λ wants. served;
-          below = λ on. timed_below l.road (h.lane_needs.below running);
-          way = h.lane_needs.way;
-        };
-      };
+      sees = sees_on w0 w v k c l (lane true (sender_timed_out l.road)) h (record h.sender { machine = machine }) h.receiver s.shows
+          (near_on n n1 h.near0 h.far0 h.sender machine s.deed h.near_needs is (subst EachDefinesNone s.is (timeouts_define_none h.sender n)) (λ on. running)
+          (λ on. (subst (EachLeavesOwn q h.sender) s.is (timeouts_leave_own q h.sender n h.shows.sends.here)) machine s.ends on))
+          (subst (λ (es : List Entry). FarNeeds (after h.far es) h.far0 h.receiver) (sym s.still) h.far_needs) (record {
+            served = λ wants. served;
+            below = λ on. timed_below l.road (h.lane_needs.below running);
+            way = h.lane_needs.way;
+          });
     }
 
 -- A RECEIVER'S TURN
@@ -163,27 +159,16 @@ own_receives w0 w k c m x l g h t =
     record {
       lane = lane l.fresh (receiver_turn s.turn l.road);
       moves = inr (inl (s.turn, (λ fresh. s.defined ∙ ap (λ (z : Definitions). is_receiver_defined h.receiver.channel z) h.far_needs.same.definitions ∙ (h.lane_needs.served (inl fresh)).defined), s.may, refl));
-      sees = record {
-        near = h.near;
-        far = h.far;
-        near0 = h.near0;
-        far0 = h.far0;
-        sender = h.sender;
-        receiver = record h.receiver { machine = machine; kept = s.kept };
-        shows = s.shows;
-        near0_is = h.near0_is;
-        far0_is = h.far0_is;
-        near_needs = subst (λ (es : List Entry). NearNeeds (after h.near es) h.near0 h.far0 h.sender) (sym s.still) h.near_needs;
-        far_needs = far_on n n1 h.far0 h.receiver machine s.kept s.deed h.far_needs is (subst EachDefinesNone s.is (receivers_define_none x.stamp h.receiver x.effect.popped n)) kept;
-        lane_needs = record {
-          served = λ wants. record {
-            defined = (h.lane_needs.served wants).defined;
-            stopped = never_stopped s.turn l.road (ap (λ (y : Receiver). is_stopped y.state) h.shows.takes.machine ∙ (h.lane_needs.served wants).stopped);
-          };
-          below = λ on. takes_below s.turn l.road (h.lane_needs.below on);
-          way = takes_away h.far0 s.turn l.road h.lane_needs.way;
-        };
-      };
+      sees = sees_on w0 w v k c l (lane l.fresh (receiver_turn s.turn l.road)) h h.sender (record h.receiver { machine = machine; kept = s.kept }) s.shows
+          (subst (λ (es : List Entry). NearNeeds (after h.near es) h.near0 h.far0 h.sender) (sym s.still) h.near_needs)
+          (far_on n n1 h.far0 h.receiver machine s.kept s.deed h.far_needs is (subst EachDefinesNone s.is (receivers_define_none x.stamp h.receiver x.effect.popped n)) kept) (record {
+            served = λ wants. record {
+              defined = (h.lane_needs.served wants).defined;
+              stopped = never_stopped s.turn l.road (ap (λ (y : Receiver). is_stopped y.state) h.shows.takes.machine ∙ (h.lane_needs.served wants).stopped);
+            };
+            below = λ on. takes_below s.turn l.road (h.lane_needs.below on);
+            way = takes_away h.far0 s.turn l.road h.lane_needs.way;
+          });
     }
   where
     seen_away : (x.effect.popped ≡ waiting l.road.out) ⊎ (x.effect.popped ≡ items.Nothing) → SeenAway h.far0 x.effect.popped

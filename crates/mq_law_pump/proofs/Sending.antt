@@ -61,7 +61,7 @@ use Rattle.mq_law_pump.specs.Rows.{AreWithin, rows_of}
 use Rattle.mq_law_pump.proofs.Counting.{expire_less, free_length, holds_so, leaves_less, releases_same}
 
 -- WHAT THE TABLE SAYS
-abbrev Says : Sender → Stock → SenderDoes → Type 0
+abbrev pub Says : Sender → Stock → SenderDoes → Type 0
 Says m st does.Still = Unit {0}
 Says m st does.Ignore = Unit {0}
 Says m st does.Expire = (is_running m.state ≡ true) × (st.expired ≡ true)
@@ -69,7 +69,7 @@ Says m st (does.Begin k count) = (is_running m.state ≡ true) × (count ≡ min
 Says m st (does.PushMsg index) = (is_sending m.state ≡ true) × (index ≡ messages_sent m.state + 1) × (nat_lt (messages_sent m.state) m.count ≡ true)
 Says m st _ = is_running m.state ≡ true
 
-says : (m : Sender) (seen : Seen) (st : Stock) → Says m st (sender_next m seen st)
+pub says : (m : Sender) (seen : Seen) (st : Stock) → Says m st (sender_next m seen st)
 says m seen st = by_lines (Says m st) does.Still (sender_lines m seen st) (
   (λ e. ap is_running (binding_is m.state (and_both (is_binding m.state) (is_status m.kept.session seen) e).0)),
   λ x1. (

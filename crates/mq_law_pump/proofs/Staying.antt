@@ -1,5 +1,5 @@
 -- No turn brings a sender to run that didn't, and none stops a receiver.
-use Rattle.std.proofs.Common.{ℕ, ◌≡◌, true, false, refl, ap}
+use Rattle.std.proofs.Common.{ℕ, ◌≡◌, true, false, refl}
 use Rattle.mq_frame.specs.declared.frame.FrameKind.{FrameKind}
 use Rattle.mq_frame.specs.declared.frame.FrameKind.TheVariants as kinds
 use Rattle.mq_frame.specs.declared.frame.Seen.{Seen}
@@ -14,14 +14,14 @@ use Rattle.mq_receiver.specs.declared.turns.ReceiverOut.{ReceiverOut}
 use Rattle.mq_receiver.specs.declared.turns.ReceiverOut.TheVariants as ends
 use Rattle.mq_sender.specs.After.{sender_after}
 use Rattle.mq_sender.specs.States.{is_running}
-use Rattle.mq_sender.specs.Table.{is_ack, is_binding, is_err, is_status, is_waiting, sender_lines, sender_next}
+use Rattle.mq_sender.specs.Table.{sender_next}
 use Rattle.mq_sender.specs.declared.state.Sender.{Sender}
 use Rattle.mq_sender.specs.declared.turns.SenderDoes.{SenderDoes}
 use Rattle.mq_sender.specs.declared.turns.SenderDoes.TheVariants as sends
 use Rattle.mq_sender.specs.declared.turns.SenderOut.{SenderOut}
 use Rattle.mq_sender.specs.declared.turns.SenderOut.TheVariants as outs
-use Rattle.mq_law_channel.proofs.Sending.{binding_is, hailing_is, idle_is, ready_is, sending_runs, starting_is, waiting_is}
-use Rattle.mq_law_channel.proofs.Told.{and_both, by_lines}
+use Rattle.mq_law_channel.proofs.Sending.{sending_runs}
+use Rattle.mq_law_pump.proofs.Sending.{Says, says}
 use Rattle.mq_law_idle.specs.Roads.{ReceiverTurn, Road, SenderTurn, receiver_does, receiver_turn, receiver_turned, sender_does, sender_turn, sender_turned, waiting}
 
 -- A SENDER THAT TAKES A TURN BUT TO LOOK AWAY RUNS
@@ -30,32 +30,14 @@ Runs s sends.Still = Unit {0}
 Runs s sends.Ignore = Unit {0}
 Runs s _ = is_running s.state ≡ true
 
+says_runs : (m : Sender) (st : Stock) (d : SenderDoes) → Says m st d → Runs m d
+says_runs m st sends.Expire h = h.0
+says_runs m st (sends.Begin k count) h = h.0
+says_runs m st (sends.PushMsg index) h = sending_runs m.state h.0
+says_runs m st d h = h
+
 pub runs_by : (m : Sender) (seen : Seen) (st : Stock) → Runs m (sender_next m seen st)
-runs_by m seen st = by_lines (Runs m) sends.Still (sender_lines m seen st) (
-  (λ e. ap is_running (binding_is m.state (and_both (is_binding m.state) (is_status m.kept.session seen) e).0)),
-  λ x1. (
-    (λ e. ap is_running (waiting_is m.state (and_both (is_waiting m.state) (is_ack m.kept.doubt seen) e).0)),
-    λ x2. (
-      (λ e. ap is_running (waiting_is m.state (and_both (is_waiting m.state) (is_err m.kept.doubt seen) e).0)),
-      λ x3. (
-        (λ e. tt),
-        λ x4. (
-          (λ e. ap is_running (starting_is m.state e)),
-          λ x5. (
-            (λ e. ap is_running (hailing_is m.state e)),
-            λ x6. (
-              (λ e. ap is_running (idle_is m.state (and_both _ _ (and_both _ _ e).0).0)),
-              λ x7. (
-                (λ e. ap is_running (idle_is m.state (and_both _ _ (and_both _ _ e).0).0)),
-                λ x8. ((λ e. sending_runs m.state (and_both _ _ e).0), λ x9. ((λ e. sending_runs m.state e), λ x10. ((λ e. ap is_running (ready_is m.state e)), λ x11. tt))),
-              ),
-            ),
-          ),
-        ),
-      ),
-    ),
-  ),
-)
+runs_by m seen st = says_runs m st (sender_next m seen st) (says m seen st)
 
 done_runs : (s : Sender) (d : SenderDoes) → Runs s d → is_running (sender_after s d outs.Done).state ≡ true → is_running s.state ≡ true
 done_runs s sends.Still r h = h

@@ -13,7 +13,7 @@ use Rattle.mq_spec_node.specs.Node.ChannelEnd.{Sends}
 use Rattle.mq_spec_node.specs.Replays.{Follows, after}
 use Rattle.mq_spec_network.specs.Turns.{Network}
 use Rattle.mq_law_idle.specs.Counts.{held_in}
-use Rattle.mq_law_keys.specs.Keys.{IsKeyed}
+use Rattle.mq_law_unshared.specs.from_law_keys.Keys.{IsKeyed}
 use Rattle.mq_law_seized.specs.Seized.{AreSeized}
 use Rattle.mq_law_pump.specs.Rows.{rows_of}
 

@@ -8,7 +8,7 @@ use Rattle.mq_calls.specs.Reads.{batch_of}
 use Rattle.mq_spec_manager.specs.Agents.{queue_of_sender}
 use Rattle.mq_spec_node.specs.Node.{Node, SenderEnd}
 use Rattle.mq_spec_node.specs.Node.ChannelEnd.{Sends}
-use Rattle.mq_law_keys.specs.Keys.{IsKeyed}
+use Rattle.mq_law_unshared.specs.from_law_keys.Keys.{IsKeyed}
 use Rattle.mq_law_manager.specs.Facts.{Sound}
 use Rattle.mq_law_unshared.specs.Unshared.{IsUnshared}
 

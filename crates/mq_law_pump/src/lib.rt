@@ -40,7 +40,7 @@ ghost use Rattle.mq_spec_network.specs.Tasks.Task.{Pump};
 ghost use Rattle.mq_spec_network.specs.Turns.{Network, changes, does, is_idle, node_at, push_refused};
 ghost use Rattle.mq_law_idle.specs.Lanes.{Begins, Lane, bound};
 ghost use Rattle.mq_law_idle.specs.Roads.{Items, Quiet, ReceiverTurn, Road, SenderTurn, is_full, laid, receiver_turn, sender_timed_out, sender_turn, waiting};
-ghost use Rattle.mq_law_keys.specs.Keys.{IsKeyed};
+ghost use Rattle.mq_law_unshared.specs.from_law_keys.Keys.{IsKeyed};
 ghost use Rattle.mq_law_node.specs.Rows.{rows_at};
 ghost use Rattle.mq_law_pump.specs.Apart.{EachEndStays, EachIsSilent};
 ghost use Rattle.mq_law_seized.specs.Seized.{AreSeized};

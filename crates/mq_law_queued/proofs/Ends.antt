@@ -53,8 +53,8 @@ use Rattle.mq_spec_node.specs.Operators.{kind_limits, limits_here, limits_of, op
 use Rattle.mq_spec_node.specs.Senders.{after_timeout, leave_if_stopped, prepare_deed, sender_deed, sender_deed_by, settle_parts, settle_parts_if, timeout_deed}
 use Rattle.mq_law_manager.specs.Facts.{Differ, ident_of}
 use Rattle.mq_law_manager.proofs.Lists.{bool_case, name_yes, name_self}
-use Rattle.mq_law_keys.specs.Keys.{IsKeyed}
-use Rattle.mq_law_keys.proofs.Telling.{receiver_mem, sender_mem}
+use Rattle.mq_law_unshared.specs.from_law_keys.Keys.{IsKeyed}
+use Rattle.mq_law_unshared.proofs.from_law_keys.Telling.{receiver_mem, sender_mem}
 use Rattle.mq_calls.specs.declared.agents.PrepareFault.TheVariants as prepare_faults
 use Rattle.mq_calls.specs.declared.deltas.Did.TheVariants as did
 use Rattle.mq_sync.specs.declared.unit.Unit.{Unit as Luw}
@@ -67,7 +67,7 @@ use Rattle.std.proofs.lemmas.Bool.{and_parts, true≢false}
 use Rattle.mq_law_queued.specs.Queued.{AreQueued, HaveSome, IsKindSome, IsQueued, parts_bare, parts_calm, parts_calm_for, is_calm, is_calm_for}
 use Rattle.mq_law_queued.proofs.Calms.{Same, bare_behind, bare_parts, batch_at, batch_gone, for_behind, for_parts, parts_none, parts_same, common_calm, for_one, written_calm}
 use Rattle.mq_sync.specs.declared.unit.Settle.TheVariants as settles
-use Rattle.mq_law_node.specs.Deeds.{HoldsBehind}
+use Rattle.mq_law_unshared.specs.from_law_node.Deeds.{HoldsBehind}
 use Rattle.mq_law_unshared.specs.Senders.{AreEach, IsLeftBy}
 use Rattle.mq_law_unshared.proofs.Senders.{awaits_runs, receiver_starts, receiver_stops, refused_each, removed, resets_each, resolves_each, set_each, settled, turn_has}
 

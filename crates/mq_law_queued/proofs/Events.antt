@@ -18,14 +18,14 @@ use Rattle.mq_history.specs.declared.history.History.{History}
 use Rattle.mq_law_manager.specs.Facts.{IsSound}
 use Rattle.mq_calls.specs.Reads.{batch_of, seizure_of}
 use Rattle.mq_spec_manager.specs.Agents.{seized_queue}
-use Rattle.mq_law_keys.specs.Keys.{IsKeyed}
-use Rattle.mq_law_keys.proofs.Telling.{sender_end_mem}
+use Rattle.mq_law_unshared.specs.from_law_keys.Keys.{IsKeyed}
+use Rattle.mq_law_unshared.proofs.from_law_keys.Telling.{sender_end_mem}
 use Rattle.mq_law_queued.specs.Queued.{AreQueued, EachCalm, HaveSome, QueuedUp, IsQueued, is_calm, is_calm_for}
 use Rattle.mq_law_queued.proofs.CalmDeeds.{ordinary_is_calm}
 use Rattle.mq_law_queued.proofs.Ends.{EachQueued, none_queued, operate_queued, sender_queued, timeout_queued, queued_left}
 use Rattle.std.proofs.lemmas.Bool.{true≢false}
-use Rattle.mq_law_node.specs.Deeds.{IsLasting}
-use Rattle.mq_law_node.proofs.Deeds.{deed_has, lasts}
+use Rattle.mq_law_unshared.specs.from_law_node.Deeds.{IsLasting}
+use Rattle.mq_law_unshared.proofs.from_law_node.Deeds.{deed_has, lasts}
 use Rattle.mq_law_unshared.specs.Senders.{AreEach}
 use Rattle.mq_law_unshared.proofs.Events.{off_begun}
 use Rattle.mq_law_unshared.proofs.Senders.{left_each, receiver_each}

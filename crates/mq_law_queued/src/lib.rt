@@ -13,7 +13,7 @@ ghost use Rattle.mq_spec_node.specs.Node.{Node};
 ghost use Rattle.mq_spec_node.specs.Happens.{IsEvent, event};
 ghost use Rattle.mq_spec_node.specs.Replays.{IsOwn, Surroundings, opening_node};
 ghost use Rattle.mq_law_manager.specs.Facts.{IsSound};
-ghost use Rattle.mq_law_keys.specs.Keys.{IsKeyed};
+ghost use Rattle.mq_law_unshared.specs.from_law_keys.Keys.{IsKeyed};
 ghost use Rattle.mq_law_queued.specs.Queued.{AreQueued, HaveSome, QueuedUp};
 
 /// So each history begins, and so it is behind each event, at a manager that is up, where each channel that is defined as a sender's has BATCHSZ 1 at least.

@@ -27,7 +27,7 @@ use Rattle.mq_spec_network.specs.Lawful.Went.{begins}
 use Rattle.mq_spec_network.specs.Promised.{AreDoubtsKnown, AreImages, Holds}
 use Rattle.mq_spec_network.specs.Steps.Goes.{stays}
 use Rattle.mq_spec_network.specs.Tasks.{tasks_next}
-use Rattle.mq_story.specs.Spots.{AreRising, Sooner}
+use Rattle.mq_net_ledger.specs.from_story.Spots.{AreRising, Sooner}
 use Rattle.mq_net_ledger.specs.Opened.{AreOpened, IsOpened}
 use Rattle.mq_law_run.proofs.Whole.{promised_in_order}
 use Rattle.mq_law_scripts.proofs.Stepping.{scripts_are}
@@ -62,7 +62,7 @@ rise s hs a m = rise_at s hs m (slice_get hs m) a refl
 
 -- ---- Openings are images.
 
-there : {A B : Type 0} (xs : List A) (ys : List B) → length xs ≡ length ys → (m : ℕ) (x : A) → slice_get xs m ≡ Some x → (y : B) × (slice_get ys m ≡ Some y)
+pub there : {A B : Type 0} (xs : List A) (ys : List B) → length xs ≡ length ys → (m : ℕ) (x : A) → slice_get xs m ≡ Some x → (y : B) × (slice_get ys m ≡ Some y)
 there [] ys long m x e = absurd cc
 there (x ∷ xs) [] long m z e = absurd cc
 there (x ∷ xs) (y ∷ ys) long zero z e = (y, refl)

@@ -1,2 +1,5 @@
 pub mod Lawfuls
 pub mod Keeping
+pub mod from_law_one
+pub mod from_law_run
+pub mod from_law_story

@@ -17,7 +17,7 @@ use Rattle.mq_spec_node.specs.Openings.{first_node}
 use Rattle.mq_spec_node.specs.Replays.{Surroundings, opening_node, state_of}
 use Rattle.mq_spec_network.specs.Given.{first_moment, surroundings}
 use Rattle.mq_spec_network.specs.Lawful.{IsCarried, IsHistory}
-use Rattle.mq_net_stands.specs.declared.standing.Standing.{Standing}
+use Rattle.mq_standing.specs.from_net_stands.{Standing}
 use Rattle.mq_standing.specs.Stands.{standing_of}
 
 -- the scenario that was run, and the histories of its managers

@@ -10,12 +10,14 @@ ghost use Rattle.mq_course.specs.Courses.{net_of};
 ghost use Rattle.mq_spec_network.specs.Apart.{IsJoined, apart};
 ghost use Rattle.mq_spec_network.specs.Tasks.{Task};
 ghost use Rattle.mq_history.specs.Scenarios.{IsScenario};
-ghost use Rattle.mq_story.specs.Spots.{AreRising};
+ghost use Rattle.mq_net_ledger.specs.from_story.Spots.{AreRising};
 ghost use Rattle.mq_spec_network.specs.Lawful.{AreOwn, AreSteps, IsLawful, Stands, marks_at};
 ghost use Rattle.mq_spec_network.specs.Promised.{AreDoubtsKnown, AreImages};
 ghost use Rattle.mq_spec_network.specs.Story.{entries_at};
 ghost use Rattle.mq_law_ran.specs.Runs.{AreCarried, AreHistories, BeginsAs, Left};
 ghost use Rattle.mq_law_ran.specs.Promises.{GotOnce, OrderKept, RowsAreLedgers, StandOnce};
+
+pub mod below;
 
 /// The stamps of a history that replays rise.
 pub fn histories_rise()

@@ -8,8 +8,8 @@ use Rattle.mq_history.specs.Scenarios.{IsScenario}
 use Rattle.mq_calls.specs.State.{Plain}
 use Rattle.mq_spec_network.specs.Standing.{cable_from}
 use Rattle.mq_spec_network.specs.Story.{Chain, Mem}
-use Rattle.mq_law_rows.proofs.Lists.{and_left, and_right, bool_case, eqb_self, eqb_yes, is_false, mem_map, name_self, name_yes}
-use Rattle.mq_law_seen.proofs.Images.{pairs_chain}
+use Rattle.mq_law_events.proofs.from_law_rows.Lists.{and_left, and_right, bool_case, eqb_self, eqb_yes, is_false, mem_map, name_self, name_yes}
+use Rattle.mq_law_events.proofs.from_law_seen.Images.{pairs_chain}
 use Rattle.mq_law_receipts.specs.Receipts.{IsCabled}
 
 abbrev pub channel_of : CableLine → List ℕ

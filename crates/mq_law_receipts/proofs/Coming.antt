@@ -18,9 +18,9 @@ use Rattle.mq_calls.specs.Reads.{batch_of, in_doubt_of, is_persistent, sender_da
 use Rattle.mq_calls.specs.Changes.{apply, apply_all, less_ident}
 use Rattle.mq_spec_manager.specs.Agents.{RowAt, row_of, doubts, is_doubted_by, Standing, Absent, InDoubtAt, Present, same_flag, standing_by, has_put, standing_at, is_present, undoubted, drop_changes}
 use Rattle.mq_spec_network.specs.Story.{Mem}
-use Rattle.mq_law_rows.specs.Kinds.{among}
-use Rattle.mq_law_rows.proofs.Lists.{bool_case, is_false, ident_yes, name_self, and_false, keep_same, keep_all, true_false}
-use Rattle.mq_law_rows.proofs.Receiving.{any_mem, mem_any}
+use Rattle.mq_law_events.specs.from_law_rows.Kinds.{among}
+use Rattle.mq_law_events.proofs.from_law_rows.Lists.{bool_case, is_false, ident_yes, name_self, and_false, keep_same, keep_all, true_false}
+use Rattle.mq_law_events.proofs.from_law_rows.Receiving.{any_mem, mem_any}
 use Rattle.mq_law_manager.specs.Facts.{AreNamed, IsOf, Sound}
 use Rattle.mq_law_receipts.specs.Receipts.{Comes}
 use Rattle.mq_law_manager.proofs.Named.{doubt_less}

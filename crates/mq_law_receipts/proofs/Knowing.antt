@@ -21,14 +21,14 @@ use Rattle.mq_calls.specs.Reads.{batch_of, connection_at, in_doubt_of, is_persis
 use Rattle.mq_spec_manager.specs.Agents.{has_put, is_pending, is_unborn}
 use Rattle.mq_spec_network.specs.Ledger.{Ledger, idents_of, ledger_rows, own_or, places_or, row_at, row_in, rows_in, unit_of}
 use Rattle.mq_spec_network.specs.Story.{Mem}
-use Rattle.mq_law_rows.specs.World.{Gone, Ghost, InBatch, InUnit, Inv, IsPlaced, Forced, Tag, Unborn, World, away, is_last, mark_of, put_idents, stands, tag_idents, tag_mark, tag_of}
-use Rattle.mq_law_rows.specs.Kinds.{awaits}
-use Rattle.mq_law_rows.proofs.Lists.{and_left, bool_case, eqb_self, is_false, true_false, ident_yes, mem_map}
-use Rattle.mq_law_rows.proofs.Owners.{standing_row}
-use Rattle.mq_law_rows.proofs.Settling.{sent_lasting, sent_words}
-use Rattle.mq_law_rows.proofs.Receiving.{any_mem, holds_means, in_batch_or_forced, luw_self, mine_claim}
-use Rattle.mq_law_seen.specs.Seen.{book_of, doubt_of, rows_of, units_of, world_of}
-use Rattle.mq_law_seen.proofs.Receipts.{admitted}
+use Rattle.mq_law_events.specs.from_law_rows.World.{Gone, Ghost, InBatch, InUnit, Inv, IsPlaced, Forced, Tag, Unborn, World, away, is_last, mark_of, put_idents, stands, tag_idents, tag_mark, tag_of}
+use Rattle.mq_law_events.specs.from_law_rows.Kinds.{awaits}
+use Rattle.mq_law_events.proofs.from_law_rows.Lists.{and_left, bool_case, eqb_self, is_false, true_false, ident_yes, mem_map}
+use Rattle.mq_law_events.proofs.from_law_rows.Owners.{standing_row}
+use Rattle.mq_law_events.proofs.from_law_rows.Settling.{sent_lasting, sent_words}
+use Rattle.mq_law_events.proofs.from_law_rows.Receiving.{any_mem, holds_means, in_batch_or_forced, luw_self, mine_claim}
+use Rattle.mq_law_events.specs.from_law_seen.Seen.{book_of, doubt_of, rows_of, units_of, world_of}
+use Rattle.mq_law_events.proofs.from_law_seen.Receipts.{admitted}
 use Rattle.mq_law_events.specs.Tied.{AreShelved}
 use Rattle.mq_law_events.proofs.Moving.{InShelves, row_in_is}
 use Rattle.mq_law_receipts.specs.Receipts.{AreNumbered, Comes, IsAwaitedAt, IsReceipt}

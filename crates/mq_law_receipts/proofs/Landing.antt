@@ -8,6 +8,7 @@ use Rattle.mq_message.specs.declared.message.Ident.{Ident}
 use Rattle.mq_message.specs.declared.message.Message.{Message}
 use Rattle.mq_queue.specs.declared.row.Row.{Row}
 use Rattle.mq_queue.specs.Rows.{same_ident, insert_row, keep}
+use Rattle.mq_queue.proofs.Edits.{same_turned}
 use Rattle.mq_objects.specs.Names.{channel_of, local_of}
 use Rattle.mq_objects.specs.declared.object.Definitions.{Definitions}
 use Rattle.mq_resolve.specs.declared.route.Route.{Route}
@@ -28,12 +29,12 @@ use Rattle.mq_spec_network.specs.Ledger as ledgers
 use Rattle.mq_spec_network.specs.Ledger.{Ledger, dead_reason, idents_of, is_admitted, move_all, own_row, place_received, places_at, places_or, received_on, take_all_gone, users_at, users_or, when}
 use Rattle.mq_spec_network.specs.Promised.{AreDistinct}
 use Rattle.mq_spec_network.specs.Story.{Mem}
-use Rattle.mq_law_rows.specs.Families.{is_here}
-use Rattle.mq_law_rows.specs.World.{LanesRise, mark_of}
-use Rattle.mq_law_rows.specs.Kinds.{Landing, among, landing_mark, landing_told, place_all}
-use Rattle.mq_law_rows.proofs.Lists.{bool_case, is_false, true_false, ident_self, ident_back, eqb_self, name_yes, keep_all, keep_insert, keep_swap, mem_insert, mem_insert_old, mem_inserted, mem_keep, mem_kept, mem_map, sorted_insert, sorted_keep}
-use Rattle.mq_law_rows.proofs.Receiving.{any_mem, mem_any}
-use Rattle.mq_law_seen.proofs.Receipts.{landing_at, landing_if, landing_maybe, landings, place_maybe, placing, received_is, routed}
+use Rattle.mq_law_events.specs.from_law_rows.Families.{is_here}
+use Rattle.mq_law_events.specs.from_law_rows.World.{LanesRise, mark_of}
+use Rattle.mq_law_events.specs.from_law_rows.Kinds.{Landing, among, landing_mark, landing_told, place_all}
+use Rattle.mq_law_events.proofs.from_law_rows.Lists.{bool_case, is_false, true_false, same_self, eqb_self, name_yes, keep_all, keep_insert, keep_swap, mem_insert, mem_insert_old, mem_inserted, mem_keep, mem_kept, mem_map, sorted_insert, sorted_keep}
+use Rattle.mq_law_events.proofs.from_law_rows.Receiving.{any_mem, mem_any}
+use Rattle.mq_law_events.proofs.from_law_seen.Receipts.{landing_at, landing_if, landing_maybe, landings, place_maybe, placing, received_is, routed}
 use Rattle.mq_law_manager.specs.Facts.{AreNamed, Sound}
 use Rattle.mq_law_manager.specs.Seen.{row_for}
 use Rattle.mq_law_manager.proofs.QueueNames.{all_named}
@@ -147,7 +148,7 @@ or_true true b e = refl
 or_true false b e = e
 
 add_first : (i : Ident) (l : Arrival) (adds : List Add) → is_persistent l.message ≡ true → l.message.ident ≡ i → has_add i (add_of l ++ adds) ≡ true
-add_first i l adds e is = ap (λ b. has_add i ((if b then record { queue = l.queue; message = l.message } ∷ [] else []) ++ adds)) e ∙ ap (λ b. b || has_add i adds) (ap (same_ident i) is ∙ ident_self i)
+add_first i l adds e is = ap (λ b. has_add i ((if b then record { queue = l.queue; message = l.message } ∷ [] else []) ++ adds)) e ∙ ap (λ b. b || has_add i adds) (ap (same_ident i) is ∙ same_self i)
 
 add_behind : (i : Ident) (l : Arrival) (adds : List Add) → has_add i adds ≡ true → has_add i (add_of l ++ adds) ≡ true
 add_behind i l adds e = bool_case (is_persistent l.message) (λ b. has_add i ((if b then record { queue = l.queue; message = l.message } ∷ [] else []) ++ adds) ≡ true) (λ z. or_true (same_ident i l.message.ident) (has_add i adds) e) (λ z. e)
@@ -332,11 +333,11 @@ one_lands t channel m ms b p l s r lands is st free sound names shadow rise once
     let aside_b : IsAside b qb = land_aside l s b in
     let sound_q : Sound qb = land_sound l.queue l.message s b sound st_l free in
     let apart : (y : Message) → Mem y ms → same_ident m.ident y.ident ≡ false = λ y n. once.0 y.ident (mem_ident y ms n) in
-    let apart_l : (y : Message) → Mem y ms → same_ident y.ident l.message.ident ≡ false = λ y n. ap (same_ident y.ident) is.0 ∙ ident_back m.ident y.ident (apart y n) in
+    let apart_l : (y : Message) → Mem y ms → same_ident y.ident l.message.ident ≡ false = λ y n. ap (same_ident y.ident) is.0 ∙ same_turned y.ident m.ident ∙ apart y n in
     let rise_q : (d : List ℕ) → LanesRise (stored d q).rows = λ d. subst LanesRise (sym (rows_q d)) (rise_if (is_here t l.queue t d) row (keep S (stored d p).rows) (sorted_keep S (stored d p).rows (rise d))) in
     let comes_q : (y : Message) → Mem y ms → Comes qb y = λ y n. comes_on b qb y aside_b (comes y (inr n)) (λ d h k f.
     (mem_keep S h (stored d b).rows (mem_if (is_here t l.queue t d) row_b h (keep S (stored d b).rows) (subst (λ xs. Mem h xs) (rows_b d) k)
-    (λ z. true_false (sym (ident_self y.ident) ∙ ap (same_ident y.ident) (sym f ∙ z) ∙ apart_l y n)))).0) in
+    (λ z. true_false (sym (same_self y.ident) ∙ ap (same_ident y.ident) (sym f ∙ z) ∙ apart_l y n)))).0) in
     let rest : Lands t channel q ms r = all qb q r e sound_q (all_named (land_changes l s) b names) (shadow_on t l s b p shadow goes_b) rise_q comes_q in
     let T_row : T row ≡ true = ap not (is_false (among ids l.message.ident) (λ z.
     true_false (sym (mem_any m.ident ids (subst (λ (i : Ident). Mem i ids) is.0 (any_mem l.message.ident ids z))) ∙ not_in m.ident ids once.0))) in
@@ -363,7 +364,7 @@ one_lands t channel m ms b p l s r lands is st free sound names shadow rise once
           let mine : Message = own_row before m in
           let c : ℤ = mine.md.backout_count in
           let D : Option Reason = dead_reason m.ident ds in
-          let dead : D ≡ l.dead = deads m (inl refl) ∙ drop_told m.ident l.message s _ ∙ ap (λ z. if z then l.dead else dead_reason m.ident r.delta) (ap (same_ident m.ident) is.0 ∙ ident_self m.ident) in
+          let dead : D ≡ l.dead = deads m (inl refl) ∙ drop_told m.ident l.message s _ ∙ ap (λ z. if z then l.dead else dead_reason m.ident r.delta) (ap (same_ident m.ident) is.0 ∙ same_self m.ident) in
           let as_own : mine ≡ counted_as c m = counted_is mine m o.own in
           let l1 : Ledger = ledgers.place t l.queue (counted_as c l.message) l0 in
           let told_b : IsTold t b l0 = shadow_told t b p l0 shadow told in

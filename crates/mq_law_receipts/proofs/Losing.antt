@@ -29,13 +29,13 @@ use Rattle.mq_spec_manager.specs.Agents.{Landed, dead_message, landed, names_of,
 use Rattle.mq_spec_network.specs.Ledger as ledgers
 use Rattle.mq_spec_network.specs.Ledger.{Ledger, Users, at_moment, change_at, dead_reason, idents_of, is_admitted, ledger_rows, lose, move_all, own_row, place_at, place_received, places_at, places_or, received_on, take_all_gone, take_everywhere, unit_of, up_again, users_at, users_or, when}
 use Rattle.mq_spec_network.specs.Story.{Mem}
-use Rattle.mq_law_rows.specs.Families.{is_here}
-use Rattle.mq_law_rows.specs.World.{Ghost, Inv, LanesRise}
-use Rattle.mq_law_rows.specs.Kinds.{Landing, among, is_lost, place_all}
-use Rattle.mq_law_rows.proofs.Lists.{and_false, and_left, and_right, bool_case, ident_yes, sorted_keep, true_false}
-use Rattle.mq_law_seen.specs.Seen.{book_of, world_of}
-use Rattle.mq_law_seen.proofs.Bridges.{loses_rows}
-use Rattle.mq_law_seen.proofs.Receipts.{Placing, landing_at, landing_if, landing_maybe, landings, place_maybe, placing, received_is, receipt_rows, routed}
+use Rattle.mq_law_events.specs.from_law_rows.Families.{is_here}
+use Rattle.mq_law_events.specs.from_law_rows.World.{Ghost, Inv, LanesRise}
+use Rattle.mq_law_events.specs.from_law_rows.Kinds.{Landing, among, is_lost, place_all}
+use Rattle.mq_law_events.proofs.from_law_rows.Lists.{and_false, and_left, and_right, bool_case, ident_yes, sorted_keep, true_false}
+use Rattle.mq_law_events.specs.from_law_seen.Seen.{book_of, world_of}
+use Rattle.mq_law_events.proofs.from_law_seen.Bridges.{loses_rows}
+use Rattle.mq_law_events.proofs.from_law_seen.Receipts.{Placing, landing_at, landing_if, landing_maybe, landings, place_maybe, placing, received_is, receipt_rows, routed}
 use Rattle.mq_law_manager.specs.Facts.{IsSound}
 use Rattle.mq_law_receipts.specs.Receipts.{Comes, IsAwaitedAt, IsShadow}
 use Rattle.mq_law_receipts.proofs.Knowing.{own_in}

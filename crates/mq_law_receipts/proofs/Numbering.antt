@@ -9,7 +9,7 @@ use Rattle.mq_calls.specs.Changes.{apply, apply_all, change_connection, made_sta
 use Rattle.mq_calls.specs.Condition.{condition}
 use Rattle.mq_objects.specs.Names.{local_of}
 use Rattle.mq_spec_network.specs.Story.{Mem}
-use Rattle.mq_law_rows.proofs.Lists.{bool_case, map_mem, mem_append}
+use Rattle.mq_law_events.proofs.from_law_rows.Lists.{bool_case, map_mem, mem_append}
 use Rattle.mq_law_manager.proofs.Removals.{mem_filter}
 use Rattle.mq_law_receipts.specs.Receipts.{AreNumberedUpto, AreNextNumbers, AreNumbered, IsNextNumber}
 

@@ -30,14 +30,14 @@ use Rattle.mq_spec_network.specs.Ledger.{Ledger, dead_reason, idents_of, is_admi
 use Rattle.mq_spec_network.specs.Promised.{AreDistinct}
 use Rattle.mq_spec_network.specs.Standing.{cable_from, last_unit, last_unit_at, last_unit_of}
 use Rattle.mq_spec_network.specs.Story.{Mem}
-use Rattle.mq_law_rows.specs.Families.{is_here, put_at}
-use Rattle.mq_law_rows.specs.World.{Book, Ghost, Inv, LanesRise, Mark, World, mark_of, tag_idents, tag_mark}
-use Rattle.mq_law_rows.specs.Kinds.{Landing, among, book_receive, ghost_receive, landing_mark, landing_told, place_all}
-use Rattle.mq_law_rows.specs.Kinds as kinds
-use Rattle.mq_law_rows.proofs.Lists.{bool_case, eqb_self, eqb_yes, here_yes, is_false, keep_all, name_self, name_yes, true_false}
-use Rattle.mq_law_rows.proofs.Receiving as receiving
-use Rattle.mq_law_seen.specs.Seen.{book_of, doubt_of, held_unit, holds_of, last_of, rows_of, units_of, world_of}
-use Rattle.mq_law_seen.proofs.Receipts.{Placing, landings, mapped_get, place_maybe, placing, receipt_rows, received_is}
+use Rattle.mq_law_events.specs.from_law_rows.Families.{is_here, put_at}
+use Rattle.mq_law_events.specs.from_law_rows.World.{Book, Ghost, Inv, LanesRise, Mark, World, mark_of, tag_idents, tag_mark}
+use Rattle.mq_law_events.specs.from_law_rows.Kinds.{Landing, among, book_receive, ghost_receive, landing_mark, landing_told, place_all}
+use Rattle.mq_law_events.specs.from_law_rows.Kinds as kinds
+use Rattle.mq_law_events.proofs.from_law_rows.Lists.{bool_case, eqb_self, eqb_yes, here_yes, is_false, keep_all, name_self, name_yes, true_false}
+use Rattle.mq_law_events.proofs.from_law_rows.Receiving as receiving
+use Rattle.mq_law_events.specs.from_law_seen.Seen.{book_of, doubt_of, held_unit, holds_of, last_of, rows_of, units_of, world_of}
+use Rattle.mq_law_events.proofs.from_law_seen.Receipts.{Placing, landings, mapped_get, place_maybe, placing, receipt_rows, received_is}
 use Rattle.mq_law_manager.specs.Facts.{IsSound}
 use Rattle.mq_law_manager.proofs.Named.{receiver_set}
 use Rattle.mq_law_manager.proofs.Receiving.{log_aside, with_log}

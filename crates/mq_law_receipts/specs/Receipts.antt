@@ -18,9 +18,9 @@ use Rattle.mq_spec_manager.specs.Agents.{is_pending, is_unborn}
 use Rattle.mq_spec_network.specs.Ledger.{Ledger, ledger_rows}
 use Rattle.mq_spec_network.specs.Standing.{cable_from}
 use Rattle.mq_spec_network.specs.Story.{Chain, Mem}
-use Rattle.mq_law_rows.specs.World.{Ghost, Inv, tag_idents, tag_of}
-use Rattle.mq_law_rows.specs.Kinds.{Commits, Landing, among, ghost_receive, place_all}
-use Rattle.mq_law_seen.specs.Seen.{book_of, world_of}
+use Rattle.mq_law_events.specs.from_law_rows.World.{Ghost, Inv, tag_idents, tag_of}
+use Rattle.mq_law_events.specs.from_law_rows.Kinds.{Commits, Landing, among, ghost_receive, place_all}
+use Rattle.mq_law_events.specs.from_law_seen.Seen.{book_of, world_of}
 use Rattle.mq_law_manager.specs.Facts.{IsSound}
 use Rattle.mq_law_events.specs.Posting.{IsTimed}
 use Rattle.mq_law_events.specs.Tied.{AreShelved, IsFresh, IsTold}

@@ -21,8 +21,8 @@ ghost use Rattle.mq_spec_manager.specs.Receiving.{Landed, landed, received_part,
 ghost use Rattle.mq_spec_network.specs.Ledger as ledgers;
 ghost use Rattle.mq_spec_network.specs.Ledger.{Ledger, at_moment, post_call, take_all_gone, up_again};
 ghost use Rattle.mq_law_manager.specs.Facts.{IsSound};
-ghost use Rattle.mq_law_rows.specs.World.{Ghost, Inv};
-ghost use Rattle.mq_law_seen.specs.Seen.{book_of, world_of};
+ghost use Rattle.mq_law_events.specs.from_law_rows.World.{Ghost, Inv};
+ghost use Rattle.mq_law_events.specs.from_law_seen.Seen.{book_of, world_of};
 ghost use Rattle.mq_law_events.specs.Tied.{IsNext};
 ghost use Rattle.mq_law_receipts.specs.Receipts.{AreNumberedUpto, AreNextNumbers, Comes, IsAwaitedAt, IsCabled, IsReceipt, IsShadow, Receipt};
 

@@ -37,16 +37,16 @@ use Rattle.mq_law_manager.specs.Facts.{IsSound}
 use Rattle.mq_law_node.specs.Ends.{Batched, Reads, SendsAs, TakesAs, Where, letter_of, sender_of}
 use Rattle.mq_law_node.specs.Nodes.{FarAt, FarNode, NearAt, NearNode}
 use Rattle.mq_law_node.proofs.Named.{bool_case, nat_self, nat_yes}
-use Rattle.mq_law_one.specs.Alone.{IsState}
+use Rattle.mq_law_ran.specs.from_law_one.Alone.{IsState}
 use Rattle.mq_law_pump.specs.Fit.{IsFit}
 use Rattle.mq_law_pump.specs.Kept.{IsKeptNode, SendsBatch}
 use Rattle.mq_law_pump.proofs.Fitting.{fits}
 use Rattle.mq_law_pump.proofs.Histories.{after_more}
 use Rattle.mq_law_queued.specs.Queued.{AreQueued, QueuedUp}
 use Rattle.mq_law_queued.proofs.Events.{begins as begins_queued, events as stays_queued}
-use Rattle.mq_law_run.specs.Run.{Stand, far_at, near_at}
-use Rattle.mq_law_run.proofs.Cabling.{cable_there}
-use Rattle.mq_law_story.proofs.Weaving.{follows_at}
+use Rattle.mq_law_ran.specs.from_law_run.Run.{Stand, far_at, near_at}
+use Rattle.mq_law_ran.proofs.from_law_run.Cabling.{cable_there}
+use Rattle.mq_law_ran.proofs.from_law_story.Weaving.{follows_at}
 use Rattle.mq_law_rest.specs.Rests.{AreSome, IsPeaceful}
 use Rattle.mq_law_rest.proofs.Standing.{StandAt, stand_at}
 

@@ -30,7 +30,7 @@ use Rattle.mq_spec_network.specs.Promised.{Premises}
 use Rattle.mq_spec_network.specs.Standing.{node_after}
 use Rattle.mq_spec_network.specs.Story.{Line, entries_at, entries_or, part}
 use Rattle.mq_law_image.proofs.Naming.{mapped_mem}
-use Rattle.mq_course.specs.Courses.{net_of}
+use Rattle.mq_law_ran.specs.from_course.Courses.{net_of}
 use Rattle.mq_law_channel.specs.Channel.{Channel, Facts, Past, tale, tale_of, tales}
 use Rattle.mq_law_channel.specs.Facts.{Binds, Tale}
 use Rattle.mq_law_idle.proofs.Serving.{session_serves}
@@ -41,9 +41,9 @@ use Rattle.mq_law_pump.specs.Fit.{Good, IsFit}
 use Rattle.mq_law_pump.specs.Restful.{Restful}
 use Rattle.mq_law_pump.specs.Ways.{seen_of}
 use Rattle.mq_law_pump.proofs.Ways.{frames_of, lies, offer_if}
-use Rattle.mq_law_run.specs.Run.{Stand, far_at, near_at}
-use Rattle.mq_law_run.proofs.Acting.{cable_is, some_at}
-use Rattle.mq_law_run.proofs.Lining.{mem_at}
+use Rattle.mq_law_ran.specs.from_law_run.Run.{Stand, far_at, near_at}
+use Rattle.mq_law_ran.proofs.from_law_run.Acting.{cable_is, some_at}
+use Rattle.mq_law_ran.proofs.from_law_run.Lining.{mem_at}
 use Rattle.mq_law_rest.specs.Within.{AllWithin}
 use Rattle.mq_law_rest.specs.Rests.{AllMayRest, AllUp, AreSome, EndsAre, IsPeaceful, MayRest}
 use Rattle.mq_law_rest.proofs.Calm.{IsCalm, calm_of}

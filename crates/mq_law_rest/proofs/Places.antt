@@ -1,5 +1,5 @@
 -- Where in a run a PUMP stands that was done whole: its two networks, and what its mark says.
-use Rattle.std.proofs.Common.{ℕ, zero, suc, ◌≡◌, ◌<◌, List, [], ◌∷◌, ◌++◌, length, refl, ap, sym, ◌∙◌, append_assoc, arith}
+use Rattle.std.proofs.Common.{ℕ, suc, ◌≡◌, ◌<◌, List, [], ◌∷◌, ◌++◌, length, ap, sym, ◌∙◌, append_assoc, arith}
 use Rattle.std.specs.Prelude.{Some, slice_get}
 use Rattle.std.proofs.lemmas.Option.{slice_get_within}
 use Rattle.mq_history.specs.declared.history.History.{History}
@@ -10,13 +10,9 @@ use Rattle.mq_history.specs.declared.scenario.Step.TheVariants as steps
 use Rattle.mq_spec_network.specs.Tasks.{Task, tasks_next, tasks_of}
 use Rattle.mq_spec_network.specs.Lawful.{IsFar, mark_of, marks_or, network_begun}
 use Rattle.mq_spec_network.specs.Lawful.Went.{ends}
+use Rattle.mq_nodes.proofs.CarriedLaws.{get_front as slice_front}
 use Rattle.mq_law_rest.specs.Until.{IsStep}
 use Rattle.mq_law_rest.proofs.Steps.{Grew, Split, at_end, goes_grew, grew_then, longer, marks_many, some_is, split}
-
-slice_front : {A : Type 0} (xs ys : List A) (i : ℕ) → i < length xs → slice_get (xs ++ ys) i ≡ slice_get xs i
-slice_front [] ys i less = absurd (omega (arith, less))
-slice_front (x ∷ xs) ys zero less = refl
-slice_front (x ∷ xs) ys (suc i) less = slice_front xs ys i (omega (arith, less))
 
 pub step_of : (s : Scenario) (hs : List History) (whole rest : List Step) (tasks : List Task) (i n : ℕ) → IsFar s hs whole rest tasks → slice_get s.steps i ≡ Some (steps.Pump n) → (m : ℕ) (h : History) (k : Mark) → slice_get hs m ≡ Some h
     → slice_get h.marks i ≡ Some k → IsStep s hs i n

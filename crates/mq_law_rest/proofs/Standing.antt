@@ -9,11 +9,11 @@ use Rattle.mq_spec_network.specs.Promised.{Premises}
 use Rattle.mq_spec_network.specs.Story.{IsStory, Line, Mem, entries_at, entries_or, part}
 use Rattle.mq_law_manager.proofs.Lists.{mem_before}
 use Rattle.mq_law_node.proofs.Named.{bool_case}
-use Rattle.mq_law_one.proofs.Running.{none_more, one_more, told_of}
-use Rattle.mq_law_run.specs.Run.{Stand}
-use Rattle.mq_law_run.proofs.Beginning.{begins}
-use Rattle.mq_law_run.proofs.Standing.{keeps_on}
-use Rattle.mq_law_run.proofs.Whole.{entry_moves}
+use Rattle.mq_law_ran.proofs.from_law_one.Running.{none_more, one_more, told_of}
+use Rattle.mq_law_ran.specs.from_law_run.Run.{Stand}
+use Rattle.mq_law_ran.proofs.from_law_run.Beginning.{begins}
+use Rattle.mq_law_ran.proofs.from_law_run.Standing.{keeps_on}
+use Rattle.mq_law_ran.proofs.from_law_run.Whole.{entry_moves}
 use Rattle.mq_law_rest.specs.Rests.{IsPeaceful}
 use Rattle.mq_law_rest.proofs.Calm.{IsCalm, calm_of, deeds_both, mem_of_part}
 

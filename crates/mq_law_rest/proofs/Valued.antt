@@ -24,7 +24,7 @@ use Rattle.mq_spec_network.specs.Promised.{Premises}
 use Rattle.mq_spec_network.specs.Standing.{managers_from, node_after, opening_ledger, opening_managers, places_of}
 use Rattle.mq_spec_network.specs.Turns.{Network}
 use Rattle.mq_spec_network.specs.Lawful.{network_begun}
-use Rattle.mq_law_events.specs.Tied.{IsTold}
+use Rattle.mq_law_ran.specs.from_law_events.Tied.{IsTold}
 use Rattle.mq_law_image.specs.Values.{AreObjectTexts, IsChannelText, IsKindText, IsObjectText}
 use Rattle.mq_law_node.proofs.Named.{bool_case}
 use Rattle.mq_law_queued.specs.Queued.{HaveSome, IsKindSome}

@@ -5,7 +5,7 @@ use Rattle.mq_history.specs.declared.history.History.{History}
 use Rattle.mq_history.specs.declared.history.Mark.{Mark}
 use Rattle.mq_history.specs.declared.scenario.Scenario.{Scenario}
 use Rattle.mq_history.specs.declared.scenario.Step.{Step}
-use Rattle.mq_course.specs.Courses.{net_of}
+use Rattle.mq_law_ran.specs.from_course.Courses.{net_of}
 use Rattle.mq_nodes.specs.Carried.{until}
 use Rattle.mq_spec_network.specs.Turns.{Network, is_idle}
 use Rattle.mq_spec_network.specs.Tasks.Slot.{Sends}

@@ -18,7 +18,7 @@ ghost use Rattle.mq_spec_network.specs.Promised.{Premises};
 ghost use Rattle.mq_law_pump.specs.Fit.{IsFit};
 ghost use Rattle.mq_law_pump.specs.Fit.{Good};
 ghost use Rattle.mq_law_pump.specs.Restful.{Restful};
-ghost use Rattle.mq_course.specs.Courses.{net_of};
+ghost use Rattle.mq_law_ran.specs.from_course.Courses.{net_of};
 ghost use Rattle.mq_history.specs.Scenarios.{IsScenario};
 ghost use Rattle.mq_spec_network.specs.Apart.{IsJoined};
 ghost use Rattle.mq_spec_network.specs.Conflict.{NoConflict};

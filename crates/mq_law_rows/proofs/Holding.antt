@@ -12,6 +12,7 @@ use Rattle.mq_calls.specs.Changes.{retag_if}
 use Rattle.mq_spec_network.specs.Story.{Mem}
 use Rattle.mq_spec_network.specs.Promised.{AreDistinct}
 use Rattle.mq_spec_network.specs.Standing.{row_told, rows_told}
+use Rattle.mq_law_rows.proofs.Telling.{alike_self, keeps_alike}
 use Rattle.mq_law_rows.specs.Families.{is_here, put_at}
 use Rattle.mq_law_rows.specs.World.{World, Book, Ghost, Tag, Owner, Unborn, At, InBatch, Forced, InUnit, Gone, tag_of, tag_idents, ident_of, idents_in, is_last, away, stands, row_stands, standing, is_forced, claim, IsHeldBy, IsElsewhere, StandsIn, got_idents, Inv}
 use Rattle.mq_law_rows.specs.Kinds.{among, unit_at, hold_batch, ghost_take, ghost_hold, prepare, Chosen}
@@ -63,7 +64,7 @@ unit_batch k c e = cc
 batch_same : (d c : List ℕ) → Some (holders.Batch d) ≡ Some (holders.Batch c) → d ≡ c
 batch_same d c e = let p : holders.Batch d ≡ holders.Batch c = cc in cc
 
-at_claim : (m a : ℕ) (q d : List ℕ) (x : Option Holder) → At m q ≡ claim a d x → (is_here m q a d ≡ true) × (x ≡ None)
+pub at_claim : (m a : ℕ) (q d : List ℕ) (x : Option Holder) → At m q ≡ claim a d x → (is_here m q a d ≡ true) × (x ≡ None)
 at_claim m a q d None e = let p : m ≡ a = cc in let r : q ≡ d = cc in (rw (← p, ← r) (here_self m q), refl)
 at_claim m a q d (Some (holders.Unit k)) e = absurd cc
 at_claim m a q d (Some (holders.Batch c)) e = absurd cc
@@ -247,33 +248,4 @@ prepares w g b m c u h holds new =
     let same_away : (a : ℕ) (e : List ℕ) → away v a e ≡ away w a e = λ a e.
     bool_case (is_here m c a e) (λ z. ((if z then true else w.doubt a e) && is_last (w.holds a e) (w.last a e)) ≡ away w a e)
     (λ z. let p = here_yes m c a e z in rw (p.0, p.1) (here_not true ∙ sym (here_not (w.doubt m c)))) (λ z. refl) in
-    let stands_same : (a : ℕ) (x : Option Holder) → stands (away v a) x ≡ stands (away w a) x = λ a x. ap (λ (f : List ℕ → Bool). stands f x) (λ i e. same_away a e i) in
-    record {
-      sorted = h.sorted;
-      shelved = h.shelved;
-      claims = λ a d y n s. h.claims a d y n (sym (stands_same a y.by) ∙ s);
-      taken = h.taken;
-      batch = h.batch;
-      live = h.live;
-      present = h.present;
-      sent_once = h.sent_once;
-      operated = h.operated;
-      operated_there = h.operated_there;
-      operated_once = h.operated_once;
-      forced = h.forced;
-      pending = h.pending;
-      pending_once = h.pending_once;
-      gets = h.gets;
-      gets_once = h.gets_once;
-      units = h.units;
-      unborn = h.unborn;
-      gone = h.gone;
-      got = h.got;
-      got_once = h.got_once;
-      operated_words = h.operated_words;
-      persistence = h.persistence;
-      order = h.order;
-      distinct = h.distinct;
-      back = λ a d y n s. h.back a d y n (sym (stands_same a y.by) ∙ s);
-      same = λ a d. h.same a d ∙ sym (ap rows_told (keep_same (row_stands (away v a)) (row_stands (away w a)) (w.rows a d) (λ y n. stands_same a y.by)));
-    }
+    keeps_alike w w.rows v.doubt g b h same_away (λ a d. alike_self (w.rows a d))

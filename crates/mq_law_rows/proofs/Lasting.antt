@@ -14,7 +14,7 @@ use Rattle.mq_calls.specs.Reads.{is_persistent}
 use Rattle.mq_spec_network.specs.Story.{Mem}
 use Rattle.mq_law_rows.specs.World.{World, Book, Ghost, Tag, Unborn, tag_of, claim, put_idents, IsElsewhere, Lasting, Inv}
 use Rattle.mq_law_rows.specs.Kinds.{puts_of}
-use Rattle.mq_law_rows.proofs.Lists.{bool_case, ident_yes, ident_self, mem_append}
+use Rattle.mq_law_rows.proofs.Lists.{bool_case, ident_yes, same_self, mem_append}
 use Rattle.mq_law_rows.proofs.Owners.{row_where}
 
 -- Puts of a unit
@@ -54,7 +54,7 @@ pub flag_is : (i j : Ident) (l p : Bool) (f : Ident → Bool) → (j ≡ i → p
 flag_is i j l p f new old = bool_case (same_ident j i) (λ t. p ≡ (if t then l else f j)) (λ e. new (ident_yes j i e)) (λ e. old)
 
 pub flag_new : (i j : Ident) (l p : Bool) (f : Ident → Bool) → j ≡ i → p ≡ l → p ≡ flagged i l f j
-flag_new i j l p f e same = same ∙ sym (ap (λ z. if z then l else f j) (ap (λ k. same_ident k i) e ∙ ident_self i))
+flag_new i j l p f e same = same ∙ sym (ap (λ z. if z then l else f j) (ap (λ k. same_ident k i) e ∙ same_self i))
 
 pub row_flag : (f : Ident → Bool) (x y : Row) → tag_of y.message ≡ tag_of x.message → is_persistent x.message ≡ f x.message.ident → is_persistent y.message ≡ f y.message.ident
 row_flag f x y e old = ap (λ (t : Tag). t.lasting) e ∙ old ∙ ap (λ (t : Tag). f t.ident) (sym e)

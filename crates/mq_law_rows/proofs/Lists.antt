@@ -9,7 +9,7 @@ use Rattle.mq_queue.specs.Rows.{same_ident, insert_row, keep, retag}
 use Rattle.mq_spec_network.specs.Story.{Mem}
 use Rattle.mq_spec_network.specs.Promised.{AreDistinct}
 use Rattle.mq_spec_network.specs.Standing.{row_told, rows_told}
-pub use Rattle.mq_law_manager.proofs.Lists.{bool_case, is_false, eqb_yes, eqb_self, ident_yes, ident_self, name_yes, name_self, mem_insert, mem_inserted, mem_insert_old, mem_keep, mem_kept, mem_retag, mem_retagged, mem_append}
+pub use Rattle.mq_law_manager.proofs.Lists.{bool_case, is_false, eqb_yes, eqb_self, ident_yes, same_self, name_yes, name_self, mem_insert, mem_inserted, mem_insert_old, mem_keep, mem_kept, mem_retag, mem_retagged, mem_append}
 use Rattle.mq_law_rows.specs.Families.{is_here, is_at}
 use Rattle.mq_law_rows.specs.World.{ident_of, idents_in, LanesRise}
 
@@ -41,9 +41,6 @@ and_none false true = refl
 and_none false false = refl
 
 -- Tests
-
-pub ident_back : (a b : Ident) → same_ident a b ≡ false → same_ident b a ≡ false
-ident_back a b e = is_false (same_ident b a) (λ t. cc (e, ap (λ x. same_ident x b) (sym (ident_yes b a t)), ident_self b))
 
 pub here_yes : (m : ℕ) (q : List ℕ) (a : ℕ) (b : List ℕ) → is_here m q a b ≡ true → (a ≡ m) × (b ≡ q)
 here_yes m q a b e = bool_case (a == m) (λ t. (t && bytes_eq b q) ≡ true → (a ≡ m) × (b ≡ q)) (λ x y. (eqb_yes a m x, name_yes b q y)) (λ x y. absurd cc) e
@@ -182,4 +179,4 @@ distinct_append (x ∷ xs) ys a b no_ =
 
 -- an ident that stands once is not among the others
 pub once_not : (i : Ident) (is : List Ident) → ((y : Ident) → Mem y is → same_ident i y ≡ false) → Mem i is → ⊥
-once_not i is o n = cc (o i n, ident_self i)
+once_not i is o n = cc (o i n, same_self i)

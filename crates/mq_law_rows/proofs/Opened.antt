@@ -14,7 +14,7 @@ use Rattle.mq_spec_network.specs.Promised.{AreDistinct}
 use Rattle.mq_spec_network.specs.Standing.{rows_told}
 use Rattle.mq_law_rows.specs.World.{World, Book, Ghost, Tag, Owner, Unborn, Gone, ident_of, is_last, away, stands, row_stands, standing, is_forced, is_counted, claim, IsElsewhere, LanesRise, put_idents, got_idents, items_told, Inv}
 use Rattle.mq_law_rows.specs.Beginning.{Spot, owner_by, owner_in, first_owner, Opens}
-use Rattle.mq_law_rows.proofs.Lists.{true_false, bool_case, ident_yes, ident_self, mem_keep, mem_kept, sorted_keep, keep_all}
+use Rattle.mq_law_rows.proofs.Lists.{true_false, bool_case, ident_yes, same_self, mem_keep, mem_kept, sorted_keep, keep_all}
 use Rattle.mq_law_rows.proofs.Owners.{claim_counted}
 use Rattle.mq_law_rows.proofs.Young.{young_means, unit_self}
 use Rattle.mq_law_rows.proofs.Batches.{not_last}
@@ -28,7 +28,7 @@ find_mem i (x ∷ xs) row e = bool_case (has_ident i x) (λ t. has_ident i x ≡
 find_none : (i : Ident) (xs : List Row) (row : Row) → find (has_ident i) xs ≡ None → Mem row xs → row.message.ident ≡ i → ⊥
 find_none i [] row e n is = n
 find_none i (x ∷ xs) row e n is = bool_case (has_ident i x) (λ t. has_ident i x ≡ t → (if t then Some x else find (has_ident i) xs) ≡ None → ⊥)
-    (λ a b c. cc) (λ a b c. elim n [ inl q ↦ true_false (sym (ident_self i) ∙ ap (λ j. same_ident j i) (sym is ∙ ap ident_of q) ∙ b) | inr k ↦ find_none i xs row c k is ]) refl e
+    (λ a b c. cc) (λ a b c. elim n [ inl q ↦ true_false (sym (same_self i) ∙ ap (λ j. same_ident j i) (sym is ∙ ap ident_of q) ∙ b) | inr k ↦ find_none i xs row c k is ]) refl e
 
 -- where an ident is found, it stands; where it stands, it is found
 owner_case : (w : World) (ss : List Spot) (i : Ident) (rest : Owner) → ((s : Spot) × (row : Row) × Mem row (standing w s.manager s.queue) × (row.message.ident ≡ i) × (owner_in w ss i rest ≡ claim s.manager s.queue row.by))

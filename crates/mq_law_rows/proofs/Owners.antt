@@ -12,7 +12,7 @@ use Rattle.mq_spec_network.specs.Standing.{row_told}
 use Rattle.mq_law_rows.specs.Families.{is_here, put_at}
 use Rattle.mq_law_rows.specs.World.{World, Book, Ghost, Owner, Forced, InHand, ident_of, idents_in, away, stands, row_stands, standing, is_forced, is_counted, counted, claim, IsHeldBy, IsElsewhere, Inv}
 use Rattle.mq_law_rows.specs.Kinds.{owned}
-use Rattle.mq_law_rows.proofs.Lists.{bool_case, ident_yes, ident_self, here_yes, mem_insert, mem_insert_old, mem_keep, mem_kept, map_mem, told_mem}
+use Rattle.mq_law_rows.proofs.Lists.{bool_case, ident_yes, same_self, here_yes, mem_insert, mem_insert_old, mem_keep, mem_kept, map_mem, told_mem}
 
 -- Rows of a family with one more row
 
@@ -85,7 +85,7 @@ owned_other f i j new old p a b ne =
     bool_case (same_ident j i) (λ t. (if t then new else f j) ≡ p) (λ e. absurd (ne (sym a ∙ ap f (sym (ident_yes j i e)) ∙ b))) (λ e. b)
 
 pub owned_self : (i : Ident) (o new : Owner) → owned i new i o ≡ new
-owned_self i o new = rw (ident_self i) refl
+owned_self i o new = rw (same_self i) refl
 
 pub held_owned : (a k : ℕ) (i j : Ident) (new old : Owner) (f : Ident → Owner) → f i ≡ old → (IsHeldBy a k old → ⊥) → IsHeldBy a k (f j) → IsHeldBy a k (owned i new j (f j))
 held_owned a k i j new old f e ne n =

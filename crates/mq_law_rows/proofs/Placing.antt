@@ -192,6 +192,22 @@ reowns w g b i old new units bunits given gone got h own aside free far fits las
           ∙ h.same m q;
     }
 
+-- where the units stay
+units_stay : (w : World) (g : Ghost) (b : Book) (i : Ident) (old new : Owner) (known : Ident → Bool) (went by_gets : List Ident) → Inv w g b → g.owner i ≡ old → ((a k : ℕ) → old ≡ InUnit a k → ⊥) → ((j : Ident) → known j ≡ false → owned i new j (g.owner j) ≡ Unborn)
+    → ((j : Ident) → Mem j went → owned i new j (g.owner j) ≡ Gone) → ((j : Ident) → Mem j by_gets → owned i new j (g.owner j) ≡ Gone) → AreDistinct by_gets → Fits w (λ j. owned i new j (g.owner j)) w.units b.units known went by_gets
+units_stay w g b i old new known went by_gets h own apart unborn gone got once = record {
+  taken = λ a k j n. n;
+  pending = λ a k j n. owned_other g.owner i j new old (InUnit a k) own (h.pending a k j n) (apart a k);
+  pending_once = h.pending_once;
+  gets = λ a k j n. n;
+  gets_once = h.gets_once;
+  units = h.units;
+  unborn = unborn;
+  gone = gone;
+  got = got;
+  got_once = once;
+}
+
 or_false : (a b : Bool) → (a || b) ≡ false → (a ≡ false) × (b ≡ false)
 or_false true b e = absurd cc
 or_false false b e = (refl, e)
@@ -202,50 +218,25 @@ pub gives : (w : World) (g : Ghost) (b : Book) (m : ℕ) (i : Ident) → Inv w g
 gives w g b m i h new =
     let own : g.owner i ≡ Unborn = h.unborn i new in
     let other = owned_other g.owner i in
-    reowns w g b i Unborn (InHand m) w.units b.units (give w i).given b.gone b.got h own tt refl (λ a z. absurd z) (record {
-      taken = λ a k j n. n;
-      pending = λ a k j n. other j (InHand m) Unborn (InUnit a k) own (h.pending a k j n) (λ e. cc);
-      pending_once = h.pending_once;
-      gets = λ a k j n. n;
-      gets_once = h.gets_once;
-      units = h.units;
-      unborn = λ j e. let z = or_false (same_ident j i) (w.given j) e in rw (z.0) (h.unborn j z.1);
-      gone = λ j n. other j (InHand m) Unborn Gone own (h.gone j n) (λ e. cc);
-      got = λ j n. other j (InHand m) Unborn Gone own (h.got j n) (λ e. cc);
-      got_once = h.got_once;
-    }) h.persistence
+    reowns w g b i Unborn (InHand m) w.units b.units (give w i).given b.gone b.got h own tt refl (λ a z. absurd z)
+    (units_stay w g b i Unborn (InHand m) (give w i).given b.gone b.got h own (λ a k e. cc)
+    (λ j e. let z = or_false (same_ident j i) (w.given j) e in rw (z.0) (h.unborn j z.1))
+    (λ j n. other j (InHand m) Unborn Gone own (h.gone j n) (λ e. cc)) (λ j n. other j (InHand m) Unborn Gone own (h.got j n) (λ e. cc)) h.got_once) h.persistence
 
 -- what is in hand goes for good
+bury : (w : World) (g : Ghost) (b : Book) (m : ℕ) (i : Ident) (got : List Ident) → Inv w g b → g.owner i ≡ InHand m → ((j : Ident) → Mem j got → owned i Gone j (g.owner j) ≡ Gone) → AreDistinct got
+    → Inv w (after g (owned i Gone)) (record { rows = b.rows; units = b.units; gone = i ∷ b.gone; got = got })
+bury w g b m i got h own taken once =
+    let other = owned_other g.owner i in
+    reowns w g b i (InHand m) Gone w.units b.units w.given (i ∷ b.gone) got h own tt refl (λ a z. tt)
+    (units_stay w g b i (InHand m) Gone w.given (i ∷ b.gone) got h own (λ a k e. cc) (λ j e. other j Gone (InHand m) Unborn own (h.unborn j e) (λ e. cc))
+    (λ j. elim [ inl z ↦ rw z (owned_self i (g.owner i) Gone) | inr n ↦ other j Gone (InHand m) Gone own (h.gone j n) (λ e. cc) ]) taken once) h.persistence
+
 pub buries : (w : World) (g : Ghost) (b : Book) (m : ℕ) (by_get : Bool) (i : Ident) → Inv w g b → g.owner i ≡ InHand m → w.given i ≡ true
     → Inv w (after g (owned i Gone)) (book_bury b by_get i)
-buries w g b m true i h own known =
-    let other = owned_other g.owner i in
-    reowns w g b i (InHand m) Gone w.units b.units w.given (i ∷ b.gone) (i ∷ b.got) h own tt refl (λ a z. tt) (record {
-      taken = λ a k j n. n;
-      pending = λ a k j n. other j Gone (InHand m) (InUnit a k) own (h.pending a k j n) (λ e. cc);
-      pending_once = h.pending_once;
-      gets = λ a k j n. n;
-      gets_once = h.gets_once;
-      units = h.units;
-      unborn = λ j e. other j Gone (InHand m) Unborn own (h.unborn j e) (λ e. cc);
-      gone = λ j. elim [ inl z ↦ rw z (owned_self i (g.owner i) Gone) | inr n ↦ other j Gone (InHand m) Gone own (h.gone j n) (λ e. cc) ];
-      got = λ j. elim [ inl z ↦ rw z (owned_self i (g.owner i) Gone) | inr n ↦ other j Gone (InHand m) Gone own (h.got j n) (λ e. cc) ];
-      got_once = ((λ y n. is_false (same_ident i y) (λ s. cc (h.got y n, ap g.owner (ident_yes i y s), own))), h.got_once);
-    }) h.persistence
-buries w g b m false i h own known =
-    let other = owned_other g.owner i in
-    reowns w g b i (InHand m) Gone w.units b.units w.given (i ∷ b.gone) b.got h own tt refl (λ a z. tt) (record {
-      taken = λ a k j n. n;
-      pending = λ a k j n. other j Gone (InHand m) (InUnit a k) own (h.pending a k j n) (λ e. cc);
-      pending_once = h.pending_once;
-      gets = λ a k j n. n;
-      gets_once = h.gets_once;
-      units = h.units;
-      unborn = λ j e. other j Gone (InHand m) Unborn own (h.unborn j e) (λ e. cc);
-      gone = λ j. elim [ inl z ↦ rw z (owned_self i (g.owner i) Gone) | inr n ↦ other j Gone (InHand m) Gone own (h.gone j n) (λ e. cc) ];
-      got = λ j n. other j Gone (InHand m) Gone own (h.got j n) (λ e. cc);
-      got_once = h.got_once;
-    }) h.persistence
+buries w g b m true i h own known = bury w g b m i (i ∷ b.got) h own (λ j. elim [ inl z ↦ rw z (owned_self i (g.owner i) Gone) | inr n ↦ owned_other g.owner i j Gone (InHand m) Gone own (h.got j n) (λ e. cc) ])
+    ((λ y n. is_false (same_ident i y) (λ s. cc (h.got y n, ap g.owner (ident_yes i y s), own))), h.got_once)
+buries w g b m false i h own known = bury w g b m i b.got h own (λ j n. owned_other g.owner i j Gone (InHand m) Gone own (h.got j n) (λ e. cc)) h.got_once
 
 -- A free row is taken off its queue.
 claim_free : (m a : ℕ) (q c : List ℕ) (x : Option Holder) → At m q ≡ claim a c x → (a ≡ m) × (c ≡ q)

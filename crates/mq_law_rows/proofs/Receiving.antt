@@ -18,7 +18,7 @@ use Rattle.mq_law_rows.specs.Families.{is_here, put_at}
 use Rattle.mq_law_rows.specs.World.{World, Book, Ghost, Mark, Tag, Owner, Unborn, At, InBatch, Forced, InUnit, Gone, tag_of, tag_mark, tag_idents, ident_of, idents_in, is_last, away, stands, row_stands, standing, is_forced, is_counted, counted, is_young, claim, IsHeldBy, IsElsewhere, LanesRise, Inv}
 use Rattle.mq_law_rows.specs.Kinds.{among, Landing, landing_told, landing_mark, place_all, lands_on, unit_at, receive, book_receive, received, ghost_receive, awaits, Commits}
 use Rattle.mq_law_rows.proofs.Young.{order_keep, order_all, order_less, order_ghost, young_means, young_so}
-use Rattle.mq_law_rows.proofs.Lists.{true_false, and_false, and_right, and_left, and_swap, eqb_self, bool_case, is_false, ident_yes, ident_self, here_yes, here_self, mem_insert, mem_insert_old, mem_keep, mem_kept, map_mem, mem_map, sorted_insert, sorted_keep, distinct_insert, distinct_keep, keep_insert, keep_swap, told_insert, told_keep}
+use Rattle.mq_law_rows.proofs.Lists.{true_false, and_false, and_right, and_left, and_swap, eqb_self, bool_case, is_false, ident_yes, same_self, here_yes, here_self, mem_insert, mem_insert_old, mem_keep, mem_kept, map_mem, mem_map, sorted_insert, sorted_keep, distinct_insert, distinct_keep, keep_insert, keep_swap, told_insert, told_keep}
 
 -- Idents of a list
 
@@ -28,7 +28,7 @@ any_mem i (x ∷ is) e = bool_case (same_ident i x) (λ t. (t || list_any (same_
 
 pub mem_any : (i : Ident) (is : List Ident) → Mem i is → among is i ≡ true
 mem_any i [] n = absurd n
-mem_any i (x ∷ is) (inl e) = rw (ap (λ y. same_ident i y) (sym e) ∙ ident_self i) refl
+mem_any i (x ∷ is) (inl e) = rw (ap (λ y. same_ident i y) (sym e) ∙ same_self i) refl
 mem_any i (x ∷ is) (inr n) = bool_case (same_ident i x) (λ t. (t || list_any (same_ident i) is) ≡ true) (λ e. refl) (λ e. mem_any i is n)
 
 -- Rows that land
@@ -75,18 +75,18 @@ distinct_all t (l ∷ ls) a d xs o p no_ =
     (λ e. distinct_all t ls a d (insert_row l.row xs) o.1 (distinct_insert l.row xs (λ n. no_ l.row.message.ident (here_yes t l.queue a d e).0 (inl refl) n) p)
     (λ i at n v. let k = map_mem ident_of i (insert_row l.row xs) v in
     elim (mem_insert k.0 l.row xs k.1) [
-      | inl q ↦ cc (o.0 i n, ident_self i, ap (λ x. same_ident x i) (k.2 ∙ ap ident_of q))
+      | inl q ↦ cc (o.0 i n, same_self i, ap (λ x. same_ident x i) (k.2 ∙ ap ident_of q))
       | inr y ↦ no_ i at (inr n) (subst (λ (j : Ident). Mem j (idents_in xs)) (sym k.2) (mem_map ident_of k.0 xs y))
     ]))
     (λ e. distinct_all t ls a d xs o.1 p (λ i at n v. no_ i at (inr n) v))
 
 pub lands_there : (ls : List Landing) (l : Landing) → AreDistinct (landing_idents ls) → Mem l ls → lands_on ls l.row.message.ident ≡ l.queue
 lands_there [] l o n = absurd n
-lands_there (x ∷ ls) l o (inl e) = rw (e) (rw (ident_self x.row.message.ident) refl)
+lands_there (x ∷ ls) l o (inl e) = rw (e) (rw (same_self x.row.message.ident) refl)
 lands_there (x ∷ ls) l o (inr n) =
     bool_case (same_ident l.row.message.ident x.row.message.ident) (λ z. (if z then x.queue else lands_on ls l.row.message.ident) ≡ l.queue)
     (λ e. let same : l.row.message.ident ≡ x.row.message.ident = ident_yes l.row.message.ident x.row.message.ident e in
-    absurd (cc (o.0 l.row.message.ident (mem_map (λ (l : Landing). l.row.message.ident) l ls n), ident_self x.row.message.ident, ap (λ y. same_ident x.row.message.ident y) same)))
+    absurd (cc (o.0 l.row.message.ident (mem_map (λ (l : Landing). l.row.message.ident) l ls n), same_self x.row.message.ident, ap (λ y. same_ident x.row.message.ident y) same)))
     (λ e. lands_there ls l o.1 n)
 
 abbrev mark_idents : List Mark → List Ident

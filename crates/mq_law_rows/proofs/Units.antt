@@ -6,6 +6,7 @@ use Rattle.mq_message.specs.declared.place.Holder.{Holder}
 use Rattle.mq_message.specs.declared.place.Holder.TheVariants as holders
 use Rattle.mq_queue.specs.declared.row.Row.{Row}
 use Rattle.mq_queue.specs.Rows.{same_ident, keep, held_by}
+use Rattle.mq_queue.proofs.Edits.{same_turned}
 use Rattle.mq_sync.specs.declared.unit.Unit.{Unit as Luw}
 use Rattle.mq_calls.specs.Changes.{retag_if, release_if}
 use Rattle.mq_calls.specs.Reads.{is_persistent}
@@ -14,7 +15,7 @@ use Rattle.mq_spec_network.specs.Promised.{AreDistinct}
 use Rattle.mq_spec_network.specs.Standing.{rows_told}
 use Rattle.mq_law_rows.specs.Families.{is_here, is_at, put_by}
 use Rattle.mq_law_rows.specs.World.{World, Book, Ghost, Tag, Owner, Unborn, At, HeldBy, InBatch, Forced, InUnit, InHand, Gone, tag_of, tag_idents, ident_of, away, stands, row_stands, standing, is_forced, is_counted, counted, is_young, claim, IsHeldBy, IsElsewhere, put_idents, got_idents, Inv}
-use Rattle.mq_law_rows.proofs.Lists.{true_false, and_false, and_right, and_left, and_swap, eqb_self, eqb_yes, bool_case, is_false, ident_yes, ident_self, here_yes, here_self, mem_keep, mem_kept, mem_retag, mem_retagged, sorted_keep, sorted_retag, distinct_keep, keep_same, keep_swap, keep_retag, told_keep}
+use Rattle.mq_law_rows.proofs.Lists.{true_false, and_false, and_right, and_left, and_swap, eqb_self, eqb_yes, bool_case, is_false, ident_yes, same_self, here_yes, mem_keep, mem_kept, mem_retag, mem_retagged, sorted_keep, sorted_retag, distinct_keep, keep_same, keep_swap, keep_retag, told_keep}
 use Rattle.mq_calls.specs.declared.state.Item.{Item}
 use Rattle.mq_calls.specs.declared.state.Item.TheVariants.{Put, Take}
 use Rattle.mq_message.specs.declared.message.Message.{Message}
@@ -27,7 +28,7 @@ use Rattle.mq_law_rows.proofs.Lasting.{flagged, flag_is, flag_new, lasts, put_in
 use Rattle.mq_law_rows.proofs.Placing.{reowns}
 use Rattle.mq_law_rows.proofs.Receiving.{any_mem, mem_any}
 use Rattle.mq_law_rows.proofs.Batches.{retag_idents, release_place, release_told, release_tag, release_ident, released, unreleased}
-use Rattle.mq_law_rows.proofs.Holding.{retag_place, retag_told, retag_tag, retag_ident, only_one}
+use Rattle.mq_law_rows.proofs.Holding.{retag_place, retag_told, retag_tag, retag_ident, only_one, at_claim as free_claim}
 
 -- Items
 
@@ -137,7 +138,7 @@ unpends w g b m k q message items told h is same =
     reowns w g b i (InUnit m k) (InHand m) (put_by w.units m k items) (put_by b.units m k told) w.given b.gone b.got h own tt refl (λ a z. z) (record {
       taken = λ a e j n. subst (Mem j) (sym (gots a e)) n;
       pending = λ a e j. unit_case w.units m k items (λ a e l. Mem j (put_idents l) → owned i (InHand m) j (g.owner j) ≡ InUnit a e)
-          (λ n. rw (ident_back_ i j (once.0 j n)) (h.pending m k j (subst (λ l. Mem j (put_idents l)) (sym is) (inr n))))
+          (λ n. rw (same_turned j i ∙ once.0 j n) (h.pending m k j (subst (λ l. Mem j (put_idents l)) (sym is) (inr n))))
           (λ a e z n. other j (InHand m) (InUnit m k) (InUnit a e) own (h.pending a e j n) (λ y. true_false (sym (unit_here m k a e y) ∙ z))) a e;
       pending_once = unit_case w.units m k items (λ a e l. AreDistinct (put_idents l)) once.1 (λ a e z. h.pending_once a e);
       gets = λ a e j n. subst (Mem j) (gots a e) n;
@@ -153,18 +154,10 @@ unpends w g b m k q message items told h is same =
     unit_here : (m k a e : ℕ) → InUnit m k ≡ InUnit a e → is_at m k a e ≡ true
     unit_here m k a e y = let p : m ≡ a = cc in let r : k ≡ e = cc in rw (← p, ← r) (at_self m k)
 
-    ident_back_ : (i j : Ident) → same_ident i j ≡ false → same_ident j i ≡ false
-    ident_back_ i j e = is_false (same_ident j i) (λ t. cc (e, ap (λ x. same_ident i x) (ident_yes j i t), ident_self i))
-
 -- A get in a unit.
 hold_case : (T : Bool) (o : Holder) (x : Row) (p : Holder) → (retag_if T (Some o) x).by ≡ Some p → ((T ≡ true) × (Some p ≡ Some o)) ⊎ ((T ≡ false) × (x.by ≡ Some p))
 hold_case true o x p e = inl (refl, sym e)
 hold_case false o x p e = inr (refl, e)
-
-free_claim : (m a : ℕ) (q d : List ℕ) (x : Option Holder) → At m q ≡ claim a d x → (is_here m q a d ≡ true) × (x ≡ None)
-free_claim m a q d None e = let p : m ≡ a = cc in let r : q ≡ d = cc in (rw (← p, ← r) (here_self m q), refl)
-free_claim m a q d (Some (holders.Unit k)) e = absurd cc
-free_claim m a q d (Some (holders.Batch c)) e = absurd cc
 
 unit_same : (d c : ℕ) → Some (holders.Unit d) ≡ Some (holders.Unit c) → d ≡ c
 unit_same d c e = let p : holders.Unit d ≡ holders.Unit c = cc in cc
@@ -243,7 +236,7 @@ holds_row w g b m q k x lasting h here free_ =
       gets = λ a e j n. bool_case (is_at m k a e) (λ t. Mem j (if t then got_idents xs ++ i ∷ [] else got_idents (w.units a e)) → IsHeldBy a e (owned i new j (g.owner j)))
           (λ z y. let p = at_yes m k a e z in elim (mem_append j (got_idents xs) (i ∷ []) y) [
             | inl f ↦ held_owned a e i j new (At m q) g.owner own (λ n. n) (h.gets a e j (rw (p.0, p.1) f))
-            | inr f ↦ elim f [ inl f ↦ rw (f, ident_self i) (sym p.0, sym p.1) | inr f ↦ absurd f ]
+            | inr f ↦ elim f [ inl f ↦ rw (f, same_self i) (sym p.0, sym p.1) | inr f ↦ absurd f ]
           ])
           (λ z y. held_owned a e i j new (At m q) g.owner own (λ n. n) (h.gets a e j y)) (gots a e (Mem j) n);
       gets_once = unit_case w.units m k (xs ++ more) (λ a e l. AreDistinct (got_idents l))

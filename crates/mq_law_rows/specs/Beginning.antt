@@ -1,15 +1,11 @@
 -- With what the families begin: what the laws need of the managers' first starts, taken together.
-use Rattle.std.specs.Prelude.{ℕ, ◌≤◌, map, ◌≡◌, ◌≢◌, true, List, [], ◌∷◌, Option, Some, None, if◌then◌else◌, find}
+use Rattle.std.specs.Prelude.{ℕ, ◌≡◌, ◌≢◌, true, List, [], ◌∷◌, Option, Some, None, if◌then◌else◌, find}
 use Rattle.mq_message.specs.declared.message.Ident.{Ident}
 use Rattle.mq_message.specs.declared.place.Holder.TheVariants as holders
 use Rattle.mq_queue.specs.declared.row.Row.{Row}
 use Rattle.mq_queue.specs.Rows.{has_ident}
 use Rattle.mq_sync.specs.declared.unit.Unit.{Unit as Luw}
-use Rattle.mq_objects.specs.declared.object.LocalQueue.{LocalQueue}
-use Rattle.mq_objects.specs.Names.{locals_of}
-use Rattle.mq_sync.specs.declared.data.InDoubt.{InDoubt}
-use Rattle.mq_calls.specs.State.{Plain}
-use Rattle.mq_calls.specs.Reads.{stored, is_persistent, sender_data, in_doubt_of}
+use Rattle.mq_calls.specs.Reads.{is_persistent}
 use Rattle.mq_spec_network.specs.Story.{Mem}
 use Rattle.mq_spec_network.specs.Promised.{AreDistinct}
 use Rattle.mq_law_rows.specs.World.{World, Book, Tag, Owner, Unborn, Gone, tag_of, tag_idents, idents_in, standing, claim, StandsIn, LanesRise}

@@ -3,3 +3,7 @@ pub mod World
 pub mod Kinds
 pub mod Ordered
 pub mod Beginning
+pub mod from_history
+pub mod from_sc_parse
+pub mod from_spec_manager
+pub mod from_spec_network

@@ -23,7 +23,7 @@ ghost use Rattle.mq_law_rows.specs.Ordered.{IsFront, with_young};
 ghost use Rattle.mq_law_rows.specs.Families.{put_at};
 ghost use Rattle.mq_spec_network.specs.Order.{Before, KeepsQueue};
 ghost use Rattle.mq_calls.specs.Reads.{is_persistent};
-ghost use Rattle.mq_spec_node.specs.Doers.{by};
+ghost use Rattle.mq_spec_network.specs.from_spec_node.Doers.{by};
 ghost use Rattle.mq_spec_network.specs.Ledger.{ledger};
 
 /// Rows are placed and taken: an ident is given; what is in hand is placed; a free row is taken off its queue; what is in

@@ -6,7 +6,6 @@ use Rattle.std.proofs.lemmas.List.Elements.{All-head, All-tail}
 use Rattle.mq_codes.specs.declared.reason.Reason.{Reason}
 use Rattle.mq_sync.specs.declared.unit.Unit.{Unit as Luw}
 use Rattle.mq_frame.specs.declared.frame.Seen.{Seen}
-use Rattle.mq_calls.specs.declared.agents.PrepareFault.{PrepareFault}
 use Rattle.mq_calls.specs.declared.choices.Choice.TheVariants.{Runs, NoMemory, Stopped}
 use Rattle.mq_history.specs.declared.calls.Actor.{Actor}
 use Rattle.mq_history.specs.declared.calls.Actor.TheVariants as actors
@@ -20,7 +19,6 @@ use Rattle.mq_history.specs.declared.scenario.CableLine.{CableLine}
 use Rattle.mq_history.specs.declared.scenario.Scenario.{Scenario}
 use Rattle.mq_history.specs.Scenarios.{IsCable}
 use Rattle.mq_sender.specs.declared.turns.SenderDoes.{SenderDoes}
-use Rattle.mq_sender.specs.declared.turns.SenderDoes.TheVariants as sends
 use Rattle.mq_receiver.specs.declared.turns.ReceiverDoes.{ReceiverDoes}
 use Rattle.mq_receiver.specs.declared.turns.ReceiverDoes.TheVariants as takes
 use Rattle.mq_calls.specs.State.{Running}
@@ -30,7 +28,7 @@ use Rattle.mq_calls.specs.Steps.Step.{Refuse, Do}
 use Rattle.mq_spec_node.specs.Node.{ChannelEnd, Node, ReceiverEnd, SenderEnd, as_receiver, as_sender, end_in}
 use Rattle.mq_spec_node.specs.Node.ChannelEnd.{Sends, Receives}
 use Rattle.mq_spec_node.specs.Deeds.{CanCome, Deed}
-use Rattle.mq_spec_node.specs.Senders.{after_timeout, prepare_deed, sender_deed, sender_deed_by, timeout_deed}
+use Rattle.mq_spec_node.specs.Senders.{after_timeout, sender_deed, sender_deed_by, timeout_deed}
 use Rattle.mq_spec_node.specs.Receivers.{place_deed, receiver_deed, receiver_deed_by}
 use Rattle.mq_spec_node.specs.Calls.{receiver_turn, sender_turn, timeout_by, timeout_of, turn_up, where_up}
 use Rattle.mq_spec_node.specs.Happens.{IsDeed, IsEvent, choice_event, event}
@@ -50,7 +48,7 @@ use Rattle.mq_law_one.proofs.Running.{Told_}
 use Rattle.mq_law_run.specs.Run.{IsRunning, Moves, Stand, far_at, is_stopped_call, near_at}
 use Rattle.mq_law_run.proofs.Cabling.{cable_there}
 use Rattle.mq_law_run.proofs.Cutting.{none_written}
-use Rattle.mq_law_run.proofs.Halting.{receiver_halts, sender_halts}
+use Rattle.mq_law_run.proofs.Halting.{EachBare, receiver_halts, sender_bare, sender_halts}
 use Rattle.mq_law_run.proofs.Lining.{mem_at}
 use Rattle.mq_law_run.proofs.Popping.{receivers_see, senders_see}
 use Rattle.mq_law_run.proofs.Running.{sends_here, takes_here}
@@ -62,23 +60,12 @@ abbrev EachFree : Option Deed → Type 0
 EachFree None = Unit {0}
 EachFree (Some d) = d.wanting ≡ None
 
-prepare_free : (e : SenderEnd) (step : Step PrepareFault (Unit {0})) (n : Node) → EachFree (Some (prepare_deed e step n))
-prepare_free e (Refuse fault) n = refl
-prepare_free e (Do reply parts) n = refl
+bare_free : (o : Option Deed) → EachBare o → EachFree o
+bare_free None h = tt
+bare_free (Some d) h = h.1
 
 sender_free : (stamp : ℕ) (e : SenderEnd) (does : SenderDoes) (n : Node) → EachFree (sender_deed_by stamp e does n)
-sender_free stamp e sends.Still n = tt
-sender_free stamp e sends.Ignore n = refl
-sender_free stamp e (sends.HardenSession session) n = refl
-sender_free stamp e sends.PushBind n = refl
-sender_free stamp e sends.Expire n = refl
-sender_free stamp e (sends.Begin k count) n = refl
-sender_free stamp e (sends.PushMsg index) n = refl
-sender_free stamp e sends.Prepare n = prepare_free e _ n
-sender_free stamp e sends.PushEnd n = refl
-sender_free stamp e (sends.Bound settle partner) n = refl
-sender_free stamp e sends.Commit n = refl
-sender_free stamp e (sends.Backout reason) n = refl
+sender_free stamp e does n = bare_free (sender_deed_by stamp e does n) (sender_bare stamp e does n)
 
 place_free : (e : ReceiverEnd) (unit : Luw) (seen : Seen) (step : Step Reason (Unit {0})) (n : Node) → EachFree (Some (place_deed e unit seen step n))
 place_free e unit seen (Refuse reason) n = refl

@@ -1,6 +1,6 @@
 -- With what a network with channels begins.
 use Rattle.std.proofs.Common.{ℕ, zero, suc, ◌≡◌, ◌≢◌, ◌<◌, ◌≤◌, Bool, true, false, List, [], ◌∷◌, ◌++◌, refl, ap, sym, subst, ◌∙◌, inl, inr, arith}
-use Rattle.std.specs.Prelude.{Option, Some, None, ◌==◌, ◌+◌, ◌||◌, ◌&&◌, not, if◌then◌else◌, nat_lt, is_some, length, map, slice_get, All}
+use Rattle.std.specs.Prelude.{Option, Some, None, ◌==◌, ◌+◌, ◌||◌, ◌&&◌, not, if◌then◌else◌, nat_lt, is_some, map, slice_get, All}
 use Rattle.std.specs.Option.{option_map}
 use Rattle.std.proofs.lemmas.Bool.Decides.{nat_tests}
 use Rattle.std.proofs.lemmas.List.Elements.{All-head, All-tail}
@@ -48,19 +48,21 @@ use Rattle.mq_law_rows.specs.World.{Ghost, is_last, tag_of}
 use Rattle.mq_law_rows.proofs.Lists.{bool_case, eqb_self, true_false}
 use Rattle.mq_law_seen.specs.Given.{is_given, sent_at, source_at, spots_of}
 use Rattle.mq_law_seen.specs.Seen.{book_of, held_unit, holds_of, rows_of, world_of}
-use Rattle.mq_law_receipts.proofs.Cabling.{cabled}
-use Rattle.mq_law_story.specs.Needs.{letter_tag}
-use Rattle.mq_law_story.proofs.Beginning.{images_have_the_facts}
-use Rattle.mq_law_story.proofs.Weaving.{manager_at}
+use Rattle.mq_law_stopped.proofs.from_law_receipts.Cabling.{cabled}
+use Rattle.mq_law_one.specs.from_law_story.Needs.{letter_tag}
+use Rattle.mq_law_one.proofs.from_law_story.Beginning.{images_have_the_facts}
+use Rattle.mq_law_one.proofs.from_law_story.Weaving.{manager_at}
 use Rattle.mq_law_seen.proofs.Images.{pairs_chain}
-use Rattle.mq_law_unshared.proofs.Events as happening
-use Rattle.mq_law_turns.proofs.Beginning as telling
+use Rattle.mq_law_deeds.proofs.from_law_unshared.Events as happening
+use Rattle.mq_law_stopped.proofs.from_law_turns.Beginning as telling
 use Rattle.mq_law_cables.proofs.Beginning as beginning
 use Rattle.mq_law_one.proofs.Running.{first_at}
+use Rattle.mq_law_seen.proofs.Openings.{mapped_at as mapped}
 use Rattle.mq_law_run.specs.Run.{IsAnew, Stand, WasInDoubt, far_at, near_at}
 use Rattle.mq_law_run.proofs.Lining.{mem_at}
 use Rattle.mq_law_run.proofs.Receiving.{upto_self}
 use Rattle.mq_law_run.proofs.Stopping.{eqb_no}
+use Rattle.mq_law_run.proofs.Acting.{some_at}
 
 -- A cable's channel: what is hardened of both its ends, and the messages of the unit in doubt
 abbrev far_data : List Plain → List ℕ → Option CableLine → ReceiverData
@@ -75,17 +77,6 @@ first_channel s ps m c = opened (sender_at c (slice_get ps m)) (far_data ps c (c
 
 abbrev first_past : Scenario → List Plain → ℕ → List ℕ → Past
 first_past s ps m c = past_opened (sender_at c (slice_get ps m)) (far_data ps c (cable_from (m + 1) c s.cables)) (letters_there ps m c)
-
--- LISTS
-some_at : {A : Type 0} (xs : List A) (i : ℕ) → i < length xs → (x : A) × (slice_get xs i ≡ Some x)
-some_at [] i e = absurd (omega (arith, e))
-some_at (x ∷ xs) zero e = (x, refl)
-some_at (x ∷ xs) (suc i) e = some_at xs i (omega (arith, e))
-
-mapped : {A B : Type 0} (f : A → B) (xs : List A) (m : ℕ) → slice_get (map f xs) m ≡ option_map f (slice_get xs m)
-mapped f [] m = refl
-mapped f (x ∷ xs) zero = refl
-mapped f (x ∷ xs) (suc m) = mapped f xs m
 
 cable_is : (s : Scenario) (ks : List CableLine) (k : CableLine) → All (IsCable s) ks → Mem k ks → IsCable s k
 cable_is s [] k h n = absurd n

@@ -33,14 +33,14 @@ use Rattle.mq_spec_node.specs.Receivers.{receiver_deed_by}
 use Rattle.mq_spec_node.specs.Senders.{after_timeout, leave_if_stopped, prepare_deed, sender_deed_by, settle_parts_if, timeout_deed}
 use Rattle.mq_spec_network.specs.Ledger.{Ledger}
 use Rattle.mq_spec_network.specs.Story.{Mem}
-use Rattle.mq_law_seized.specs.Each.{all_of, parts_of_all}
-use Rattle.mq_law_seized.proofs.Each.{all_keep, kept_behind, parts_behind, parts_keep}
+use Rattle.mq_law_node.specs.from_law_seized.Each.{all_of, parts_of_all}
+use Rattle.mq_law_node.proofs.from_law_seized.Each.{all_keep, kept_behind, parts_behind, parts_keep}
 use Rattle.mq_law_manager.specs.Facts.{Differ, ident_of}
 use Rattle.mq_law_manager.proofs.Lists.{ident_yes}
 use Rattle.mq_law_node.proofs.Named.{bool_case}
 use Rattle.mq_law_node.proofs.SenderTable.{prepared_by}
 use Rattle.mq_law_rows.proofs.Lists.{is_false}
-use Rattle.mq_law_turns.specs.Turns.{is_expiry}
+use Rattle.mq_law_stopped.specs.from_law_turns.Turns.{is_expiry}
 use Rattle.mq_law_events.specs.Posting.{IsTimed}
 use Rattle.mq_law_events.specs.Tied.{IsFresh, IsTold, connections_told}
 

@@ -76,11 +76,11 @@ use Rattle.mq_law_node.proofs.NearDoes.{close_apart, here_case}
 use Rattle.mq_law_node.proofs.Operators.{closed_at, closed_is_told, doubt_there, open_there, reset_deed, resolve_deed, resolves_batch, resolves_data, resting_apart}
 use Rattle.mq_law_node.proofs.ReceiverTurns.{arrives, end_taken, found_receiver}
 use Rattle.mq_law_node.proofs.SenderTurns.{found_data, leaves}
-use Rattle.mq_law_keys.proofs.Telling.{receiver_mem, sender_mem}
-use Rattle.mq_law_turns.specs.Turns.{parts_for_others}
-use Rattle.mq_law_turns.proofs.FarOperating.{closed_unit}
-use Rattle.mq_law_turns.proofs.OperatorSounds.{operates}
-use Rattle.mq_law_turns.proofs.Reading.{stays}
+use Rattle.mq_law_deeds.proofs.from_law_keys.Telling.{receiver_mem, sender_mem}
+use Rattle.mq_law_stopped.specs.from_law_turns.Turns.{parts_for_others}
+use Rattle.mq_law_stopped.proofs.from_law_turns.FarOperating.{closed_unit}
+use Rattle.mq_law_stopped.proofs.from_law_turns.OperatorSounds.{operates}
+use Rattle.mq_law_stopped.proofs.from_law_turns.Reading.{stays}
 use Rattle.mq_law_deeds.proofs.Resting.{apart_batch}
 use Rattle.mq_law_deeds.proofs.Sounding.{behind}
 use Rattle.mq_law_stopped.specs.Noted.{EachFirst, IsOfEnd, SaysSender}
@@ -90,7 +90,7 @@ use Rattle.mq_law_one.proofs.Running.{Told_}
 use Rattle.mq_law_run.specs.Run.{Moves, Stand, far_at, is_stopped_call, near_at}
 use Rattle.mq_law_run.proofs.Commanding.{up_so}
 use Rattle.mq_law_run.proofs.Cutting.{SaysFar, SaysNear, SaysWord, each_first, far_cut, near_cut, none_written}
-use Rattle.mq_law_found.proofs.Going.{left_row}
+use Rattle.mq_law_stopped.proofs.from_law_found.Going.{left_row}
 use Rattle.mq_law_run.proofs.Lining.{else_channel, else_index}
 use Rattle.mq_law_run.proofs.Listing.{batch_told}
 use Rattle.mq_law_run.proofs.Obeying.{obey_acts, of_receiver, of_sender, remembers, slice_at}

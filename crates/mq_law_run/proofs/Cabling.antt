@@ -11,10 +11,10 @@ use Rattle.mq_spec_network.specs.Given.{ends_from, receives_at, sends_from, surr
 use Rattle.mq_spec_network.specs.Standing.{node_after}
 use Rattle.mq_spec_network.specs.Story.{Line, Mem, part}
 use Rattle.mq_law_rows.proofs.Lists.{bool_case, eqb_yes}
-use Rattle.mq_law_keys.specs.Keys.{Key, key_of, keys}
-use Rattle.mq_law_keys.proofs.Keeping.{begun_keys, histories}
-use Rattle.mq_law_keys.proofs.Starting.{run_keyed}
-use Rattle.mq_law_keys.proofs.Telling.{end_mem}
+use Rattle.mq_law_deeds.specs.from_law_keys.Keys.{Key, key_of, keys}
+use Rattle.mq_law_deeds.proofs.from_law_keys.Keeping.{begun_keys, histories}
+use Rattle.mq_law_deeds.proofs.from_law_keys.Starting.{run_keyed}
+use Rattle.mq_law_deeds.proofs.from_law_keys.Telling.{end_mem}
 
 -- a cable of these lines, numbered from there, with this number and an end at manager m
 record IsThere (m from : ℕ) (cs : List CableLine) (j : ℕ) : Type 0 where

@@ -72,16 +72,15 @@ use Rattle.mq_law_node.proofs.SenderTable.{releases_batch, releases_data}
 use Rattle.mq_law_node.proofs.SenderTurns.{ends_set, found_data, leaves}
 use Rattle.mq_law_channel.proofs.Told.{and_both}
 use Rattle.mq_law_rows.proofs.Lists.{is_false}
-use Rattle.mq_law_seen.specs.Seen.{book_of, world_of}
+use Rattle.mq_law_seen.specs.Seen.{world_of}
 use Rattle.mq_law_events.specs.Tied.{IsNext}
-use Rattle.mq_law_story.proofs.Weaving.{ledger_step}
-use Rattle.mq_law_turns.specs.Agreed.{IsToldOf}
-use Rattle.mq_law_turns.specs.Turns.{IsAt, Scene, TurnedBy, parts_for_others, world_in}
-use Rattle.mq_law_turns.proofs.Agreeing.{released_tells}
-use Rattle.mq_law_turns.proofs.Operating.{numbers, starts, still, stops}
-use Rattle.mq_law_turns.proofs.OperatorSounds.{operates}
-use Rattle.mq_law_turns.proofs.Reading.{parts_behind, released_others, stays}
-use Rattle.mq_law_cables.proofs.Keeping.{joint_of}
+use Rattle.mq_law_one.proofs.from_law_story.Weaving.{ledger_step}
+use Rattle.mq_law_stopped.specs.from_law_turns.Agreed.{IsToldOf}
+use Rattle.mq_law_stopped.specs.from_law_turns.Turns.{IsAt, Scene, TurnedBy, parts_for_others, world_in}
+use Rattle.mq_law_stopped.proofs.from_law_turns.Agreeing.{released_tells}
+use Rattle.mq_law_stopped.proofs.from_law_turns.Operating.{numbers, starts, still, stops}
+use Rattle.mq_law_stopped.proofs.from_law_turns.OperatorSounds.{operates}
+use Rattle.mq_law_stopped.proofs.from_law_turns.Reading.{parts_behind, released_others, stays}
 use Rattle.mq_law_deeds.proofs.Resting.{apart_batch}
 use Rattle.mq_law_deeds.proofs.Sounding.{behind}
 use Rattle.mq_law_one.proofs.Running.{Told_}
@@ -89,7 +88,7 @@ use Rattle.mq_law_run.specs.Run.{IsRunning, Moves, Stand, far_at, near_at}
 use Rattle.mq_law_run.proofs.Beside.{parts_add_none, parts_beside, parts_of_end, release_adds, release_of_end}
 use Rattle.mq_law_run.proofs.Cabled.{parts_cabled}
 use Rattle.mq_law_run.proofs.Lining.{else_channel, else_index, mem_at}
-use Rattle.mq_law_run.proofs.Running.{IsRun, run_next, scene, sends_here, sound_at}
+use Rattle.mq_law_run.proofs.Running.{IsRun, run_next, scene, sender_at, sound_at}
 use Rattle.mq_law_stopped.specs.Noted.{IsForcing}
 use Rattle.mq_law_run.proofs.Sending.{none_forced_now, step_moves}
 use Rattle.mq_law_run.proofs.Telling.{risen_still, told_now}
@@ -169,10 +168,8 @@ pub told_here : (a m : ℕ) (ds es : List Did) (e : Did) → a ≡ m → es ≡ 
 told_here a m ds es e q f n = subst (λ (b : ℕ). Mem (told_of b e) (deeds_in m es)) (sym q) (subst (λ (xs : List Did). Mem (told_of m e) (deeds_in m xs)) (sym f) (in_deeds m ds e n))
 
 -- WHAT A COMMAND ON AN END COMES TO
-pub record IsCommand (o : Option Luw) (z : Scene) (n : Node) (c : Channel) (y : Past) (d : Deed) (step : NearStep) : Type 0 where
-  pub may : NearMay step c
-  pub turned : (rs : List Plain) → IsNext z.sender n.manager (do_all d.parts n.manager) z.managers rs → TurnedBy o z (world_of z.scenario z.given rs) (near_does step c) (near_past step c y)
-  pub sent : Sent z.place n d c.out (near_does step c)
+-- whatever end it is on: it changes ends alone and adds no batch, no row goes, and its operator has an answer
+pub record IsAsked (d : Deed) : Type 0 where
   pub ends : parts_of_end d.parts ≡ true
   pub adds : parts_add_none d.parts ≡ true
   pub told : all_leave (delta_of d.parts) ≡ true
@@ -180,6 +177,13 @@ pub record IsCommand (o : Option Luw) (z : Scene) (n : Node) (c : Channel) (y : 
   pub reply : d.reply ≡ replies.Acted answer
   pub is : is_of_operator answer ≡ true
   pub pushed : d.pushed ≡ None
+
+-- a sender's
+pub record IsCommand (o : Option Luw) (z : Scene) (n : Node) (c : Channel) (y : Past) (d : Deed) (step : NearStep) : Type 0 where
+  pub may : NearMay step c
+  pub turned : (rs : List Plain) → IsNext z.sender n.manager (do_all d.parts n.manager) z.managers rs → TurnedBy o z (world_of z.scenario z.given rs) (near_does step c) (near_past step c y)
+  pub sent : Sent z.place n d c.out (near_does step c)
+  pub asked : IsAsked d
   pub tells : (ps : List Plain) (ds : List ToldDeed) → ((e : Did) → Mem e (delta_of d.parts) → Mem (told_of z.sender e) ds) → IsToldOf z.scenario ps ds z.sender z.place.channel c y → IsToldOf z.scenario ps ds z.sender z.place.channel (near_does step c) (near_past step c y)
   pub commits : (u : Luw) → o ≡ Some u → Mem (did.Hardened z.place.channel (notes.Resolved u true true)) (delta_of d.parts) × (Upto u c.receives.unit → ⊥)
   pub forces : (u : Luw) → o ≡ Some u → IsForcing (world_in z) z.sender z.place.channel u (delta_of d.parts)
@@ -206,13 +210,7 @@ refuses z n c y reason a up = (
     may = tt;
     turned = λ rs h. still z n c c y n.manager rs a refl (record { queues = refl; connections = refl; batches = refl; doubts = λ d. refl; near = record { given = refl; receivers = λ d. refl } }) h;
     sent = rests_sent z.place n c (refused reason n.own) a.sends up (told_is_quiet (replies.Acted (acted.Op reason)) n.own) (λ e. (a.sends.batched e).reads);
-    ends = refl;
-    adds = refl;
-    told = refl;
-    answer = acted.Op reason;
-    reply = refl;
-    is = refl;
-    pushed = refl;
+    asked = record { ends = refl; adds = refl; told = refl; answer = acted.Op reason; reply = refl; is = refl; pushed = refl };
     tells = λ ps ds f h. h;
     commits = none_commits c z.place.channel (delta_of (refused reason n.own).parts);
     forces = none_forced_now (world_in z) z.sender z.place.channel (delta_of (refused reason n.own).parts);
@@ -241,13 +239,7 @@ seizes z n c y s None a up off =
             (λ e. absurd cc)
             (λ e. batch_parts_quiet w.channel parts _ refl ∙ h.unbatched (resting_apart c.sender.state off))
             refl;
-        ends = refl;
-        adds = refl;
-        told = refl;
-        answer = acted.Done;
-        reply = refl;
-        is = refl;
-        pushed = refl;
+        asked = record { ends = refl; adds = refl; told = refl; answer = acted.Done; reply = refl; is = refl; pushed = refl };
         tells = λ ps ds f i. record { undone = i.undone; last = i.last };
         commits = none_commits c w.channel (delta_of (start_seized (sender_of w c.sender) (Do tt parts) n).parts);
         forces = none_forced_now (world_in z) z.sender w.channel (delta_of (start_seized (sender_of w c.sender) (Do tt parts) n).parts);
@@ -285,13 +277,7 @@ stops_so z n c y a up =
             (λ e. absurd cc)
             (λ e. releases_batch w.channel o n.manager)
             refl;
-        ends = release_of_end w.channel o n.manager;
-        adds = release_adds w.channel o n.manager;
-        told = release_told w.channel o n.manager;
-        answer = acted.Done;
-        reply = refl;
-        is = refl;
-        pushed = refl;
+        asked = record { ends = release_of_end w.channel o n.manager; adds = release_adds w.channel o n.manager; told = release_told w.channel o n.manager; answer = acted.Done; reply = refl; is = refl; pushed = refl };
         tells = λ ps ds f i. released_tells z.scenario ps ds z.sender w.channel c (sender_stopped c) y refl i;
         commits = none_commits c w.channel (delta_of (stop_end (Some (Sends (sender_of w c.sender))) n).parts);
         forces = none_forced_now (world_in z) z.sender w.channel (delta_of (stop_end (Some (Sends (sender_of w c.sender))) n).parts);
@@ -316,13 +302,7 @@ numbered z n c y seqnum a up off =
             (λ e. absurd (cc (e, resting_apart c.sender.state off)))
             (λ e. h.unbatched e)
             refl;
-        ends = refl;
-        adds = refl;
-        told = refl;
-        answer = acted.Done;
-        reply = refl;
-        is = refl;
-        pushed = refl;
+        asked = record { ends = refl; adds = refl; told = refl; answer = acted.Done; reply = refl; is = refl; pushed = refl };
         tells = λ ps ds f i. record { undone = i.undone; last = i.last };
         commits = none_commits c w.channel (delta_of (reset_deed w seqnum n).parts);
         forces = none_forced_now (world_in z) z.sender w.channel (delta_of (reset_deed w seqnum n).parts);
@@ -354,20 +334,20 @@ command_moves s hs p x z t i k d op o step scenario e q call chance r v =
     let m : ℕ = x.manager in
     let n : Node = node_after s m p t.h in
     let l : Ledger = ledger (opening_ledger s hs) p in
-    let reply : x.entry.reply ≡ replies.Acted v.answer = t.tells.reply ∙ ap (λ (o : Done). o.reply) r.is ∙ v.reply in
+    let reply : x.entry.reply ≡ replies.Acted v.asked.answer = t.tells.reply ∙ ap (λ (o : Done). o.reply) r.is ∙ v.asked.reply in
     let delta : x.entry.effect.delta ≡ delta_of d.parts = t.tells.delta ∙ ap (λ (o : Done). o.delta) r.is in
-    let quiet : all_leave x.entry.effect.delta ≡ true = ap all_leave delta ∙ v.told in
+    let quiet : all_leave x.entry.effect.delta ≡ true = ap all_leave delta ∙ v.asked.told in
     step_moves s hs p x z t i k d o step scenario e q (record {
       run = r;
       may = v.may;
       turned = v.turned (managers_at s (p ++ x ∷ []) hs) (run_next s hs p x t d k.sender r q);
       sent = v.sent;
-      beside = parts_beside d.parts n.manager v.ends;
-      whole = ledger_step (opening_ledger s hs) p x ∙ operated_post m x.entry op v.answer l call chance reply v.is quiet;
+      beside = parts_beside d.parts n.manager v.asked.ends;
+      whole = ledger_step (opening_ledger s hs) p x ∙ operated_post m x.entry op v.asked.answer l call chance reply v.asked.is quiet;
       quiet = none_received x.entry.effect.delta quiet;
       tells = λ h. v.tells (opening_managers s hs) (deeds p ++ deeds_in m x.entry.effect.delta)
           (λ b w. mem_behind (told_of k.sender b) (deeds p) (deeds_in m x.entry.effect.delta) (told_here k.sender m (delta_of d.parts) x.entry.effect.delta b q delta w)) h;
-      cabled = parts_cabled s.cables m d.parts n.manager v.adds (z.cabled m t.h t.is);
+      cabled = parts_cabled s.cables m d.parts n.manager v.asked.adds (z.cabled m t.h t.is);
       near = λ j h f out a.
           let u : Where = near_at s j h in
           let other = else_channel k h (a ∙ sym q) out in
@@ -377,8 +357,8 @@ command_moves s hs p x z t i k d op o step scenario e q call chance r v =
           let u : Where = far_at s j h in
           let g : EachFarApart u n (Some d) = v.far u (else_index s i j k h e f out) in
           far_asides u n d g.0 g.1;
-      offers = λ j f by_ push. absurd (no_frame f (sym v.pushed ∙ push));
-      answers = λ j f by_ push. no_frame f (sym v.pushed ∙ push);
+      offers = λ j f by_ push. absurd (no_frame f (sym v.asked.pushed ∙ push));
+      answers = λ j f by_ push. no_frame f (sym v.asked.pushed ∙ push);
       forces = λ u f. subst (λ (o : List Did). IsForcing (world_of s z.given (managers_at s p hs)) k.sender k.channel u o) (sym delta) (v.forces u f);
       committed = λ u f.
           let b = v.commits u f in
@@ -395,22 +375,20 @@ command_moves s hs p x z t i k d op o step scenario e q call chance r v =
 pub up_so : (op : Op) (n : Node) → is_up n.manager.running ≡ true → operate_up op n ≡ operate op n
 up_so op n up = sym (ap (λ (t : Bool). tested (when (not t) reasons.Down ∷ []) n.own (operate_up op n)) up)
 
+pub operator_run : (s : Scenario) (hs : List History) (p : List Line) (x : Line) (z : Stand s hs p) (t : Told_ s hs p x) (op : Op) → IsRunning s p x t.h (operate op (node_after s x.manager p t.h)) → IsRun s hs p x t (operate op (node_after s x.manager p t.h))
+operator_run s hs p x z t op run =
+    let n : Node = node_after s x.manager p t.h in
+    let sound : IsSound n.manager = sound_at s hs p x z t run.up in
+    record { up = run.up; is = run.is; can = run.can; before = sound; after = behind (operate op n).parts n.manager sound (operates op n sound) }
+
 pub commanded : (s : Scenario) (hs : List History) (p : List Line) (x : Line) (z : Stand s hs p) (t : Told_ s hs p x) (i : ℕ) (k : CableLine) (d : Deed) (op : Op) → IsScenario s → slice_get s.cables i ≡ Some k → k.sender ≡ x.manager
     → x.entry.call ≡ calls.Act (acts.Obey (lines.Operate op)) → x.entry.chance ≡ chances.Call Runs → IsRunning s p x t.h (operate op (node_after s x.manager p t.h)) → d ≡ operate_up op (node_after s x.manager p t.h)
     → (IsAt (scene s hs p z k (near_at s i k)) (node_after s x.manager p t.h) (z.xs k.sender k.channel) (z.ys k.sender k.channel) → Commands (scene s hs p z k (near_at s i k)) (node_after s x.manager p t.h) (z.xs k.sender k.channel) (z.ys k.sender k.channel) d)
     → Moves s hs p x t.h z
 commanded s hs p x z t i k d op scenario e q call chance run is so =
     let n : Node = node_after s x.manager p t.h in
-    let c : Channel = z.xs k.sender k.channel in
-    let y : Past = z.ys k.sender k.channel in
-    let zz : Scene = scene s hs p z k (near_at s i k) in
-    let l : Ledger = ledger (opening_ledger s hs) p in
-    let there : Mem k s.cables = mem_at s.cables i k e in
-    let sound : IsSound n.manager = sound_at s hs p x z t run.up in
-    let r : IsRun s hs p x t (operate op n) = record { up = run.up; is = run.is; can = run.can; before = sound; after = behind (operate op n).parts n.manager sound (operates op n sound) } in
-    let next = run_next s hs p x t (operate op n) k.sender r q in
-    let at : IsAt zz n c y = record { at = next.at; sends = sends_here s hs p x z t i k e q run.up; facts = (z.lines i k e).facts; joint = joint_of (world_of s z.given (managers_at s p hs)) z.ghost (book_of l) s.cables z.xs z.ys k there z.joint } in
-    let b = subst (λ (g : Deed). Commands zz n c y g) (is ∙ up_so op n (ap is_up run.up)) (so at) in
+    let r : IsRun s hs p x t (operate op n) = operator_run s hs p x z t op run in
+    let b = subst (λ (g : Deed). Commands (scene s hs p z k (near_at s i k)) n (z.xs k.sender k.channel) (z.ys k.sender k.channel) g) (is ∙ up_so op n (ap is_up run.up)) (so (sender_at s hs p x z t i k (operate op n) e q r)) in
     command_moves s hs p x z t i k (operate op n) op b.0 b.1 scenario e q call chance r b.2
 
 pub starting : (s : Scenario) (hs : List History) (p : List Line) (x : Line) (h : History) (stamp : ℕ) (z : Stand s hs p) (i : ℕ) (k : CableLine) (name : List ℕ) → IsScenario s → slice_get hs x.manager ≡ Some h → Tells (node_after s x.manager p h) stamp x.entry

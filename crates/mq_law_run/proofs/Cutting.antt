@@ -57,13 +57,13 @@ use Rattle.mq_law_rows.proofs.Lists.{bool_case, here_yes, true_false}
 use Rattle.mq_law_events.specs.Tied.{Follow, IsNext}
 use Rattle.mq_law_events.proofs.Stopping.{freezes}
 use Rattle.mq_law_events.proofs.Telling.{here_changed}
-use Rattle.mq_law_found.specs.Finds.{IsNoted}
-use Rattle.mq_law_story.proofs.Weaving.{ledger_step}
-use Rattle.mq_law_turns.specs.Agreed.{IsToldOf}
-use Rattle.mq_law_turns.proofs.Agreeing.{grows}
+use Rattle.mq_law_stopped.specs.from_law_found.Finds.{IsNoted}
+use Rattle.mq_law_one.proofs.from_law_story.Weaving.{ledger_step}
+use Rattle.mq_law_stopped.specs.from_law_turns.Agreed.{IsToldOf}
+use Rattle.mq_law_stopped.proofs.from_law_turns.Agreeing.{grows}
 use Rattle.mq_law_deeds.specs.Numbers.{AreCountedAt}
 use Rattle.mq_law_deeds.proofs.Counting.{cut_kept}
-use Rattle.mq_law_receipts.specs.Receipts.{Comes}
+use Rattle.mq_law_stopped.specs.from_law_receipts.Receipts.{Comes}
 use Rattle.mq_law_stopped.specs.Noted.{EachFirst, EndNote, IsCommitting, IsOfEnd, IsWordOf, SaysSender, Stays_, all_calm, noted_of, told_at}
 use Rattle.mq_law_stopped.specs.Noted.EndNote.{Commits, Far, Near}
 use Rattle.mq_law_stopped.proofs.FarRedoing.{word_frozen}

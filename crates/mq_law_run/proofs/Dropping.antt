@@ -16,7 +16,7 @@ use Rattle.mq_law_channel.proofs.Told.{unit_self}
 use Rattle.mq_law_rows.specs.Families.{is_here}
 use Rattle.mq_law_rows.specs.Kinds.{owned, unit_at}
 use Rattle.mq_law_rows.specs.World.{At, Book, Forced, Ghost, Gone, HeldBy, InBatch, InHand, InUnit, Inv, IsElsewhere, Owner, Tag, Unborn, World, away, claim, is_counted, is_forced, stands, tag_idents, tag_of}
-use Rattle.mq_law_rows.proofs.Lists.{and_left, bool_case, here_self, here_yes, ident_self, ident_yes, keep_same, map_mem, true_false}
+use Rattle.mq_law_rows.proofs.Lists.{and_left, bool_case, here_self, here_yes, same_self, ident_yes, keep_same, map_mem, true_false}
 use Rattle.mq_law_rows.proofs.Owners.{away_owned, claim_counted, held_owned, ledger_row, owned_forced, owned_other, owned_self, told_ident}
 use Rattle.mq_law_rows.proofs.Young.{before_mem}
 use Rattle.mq_law_events.specs.Local.{with_owner}
@@ -188,7 +188,7 @@ without w g b m c u i h own none = record {
     still : (a : ℕ) (d : List ℕ) (v : Luw) (t : Tag) → Mem t (less i (unit_at m c u a d v) (g.sent a d v)) → Forced m c u ≡ Forced a d v → t.ident ≡ i → ⊥
     still a d v t n f z =
         let n1 : Mem t (filter (other i) (g.sent a d v)) = subst (λ x. Mem t (less i x (g.sent a d v))) (unit_here m c u a d v (forced_is a m d c v u (sym f))) n in
-        not_same (same_ident t.ident i) (ap (λ x. same_ident x i) z ∙ ident_self i) (from_filter i t (g.sent a d v) n1).1
+        not_same (same_ident t.ident i) (ap (λ x. same_ident x i) z ∙ same_self i) (from_filter i t (g.sent a d v) n1).1
 
     booked : (a : ℕ) (q : List ℕ) (r : Row) → Mem r (b.rows a q) → is_other i r.message.ident ≡ true
     booked a q r n = same_or i r.message.ident (λ z. none (a, q, r, n, z))
@@ -217,7 +217,7 @@ none_comes w v g b k m c u i now past h on there after_ without_ r =
         let same = forced_is a m d c x u (sym (h.operated a d x t.0 z.0 t.1) ∙ ap g.owner (sym t.2) ∙ own) in
         let n1 : Mem i (tag_idents (filter (other i) (g.sent a d x))) = subst (λ y. Mem i (tag_idents (less i y (g.sent a d x)))) (unit_here m c u a d x same) z.1 in
         let s = map_mem (λ (y : Tag). y.ident) i (filter (other i) (g.sent a d x)) n1 in
-        not_same (same_ident s.0.ident i) (ap (λ y. same_ident y i) (sym s.2) ∙ ident_self i) (from_filter i s.0 (g.sent a d x) s.1).1
+        not_same (same_ident s.0.ident i) (ap (λ y. same_ident y i) (sym s.2) ∙ same_self i) (from_filter i s.0 (g.sent a d x) s.1).1
     forced own Unborn e f = true_false (sym f)
     forced own (At a q) e f = true_false (sym f)
     forced own (HeldBy a q x) e f = true_false (sym f)

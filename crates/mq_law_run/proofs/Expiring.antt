@@ -46,11 +46,11 @@ use Rattle.mq_law_node.proofs.SenderTurns.{guarded}
 use Rattle.mq_law_rows.specs.Families.{put_at}
 use Rattle.mq_law_rows.proofs.Lists.{bool_case, eqb_self, here_self, true_false, here_yes}
 use Rattle.mq_law_seen.specs.Seen.{book_of, world_of}
-use Rattle.mq_law_story.proofs.Weaving.{ledger_step}
-use Rattle.mq_law_turns.specs.Agreed.{IsToldOf}
-use Rattle.mq_law_turns.specs.Turns.{is_expiry, AreBegun, EachFollowed}
-use Rattle.mq_law_turns.proofs.Agreeing.{grows, sender_tells}
-use Rattle.mq_law_turns.proofs.Posting.{expires}
+use Rattle.mq_law_one.proofs.from_law_story.Weaving.{ledger_step}
+use Rattle.mq_law_stopped.specs.from_law_turns.Agreed.{IsToldOf}
+use Rattle.mq_law_stopped.specs.from_law_turns.Turns.{is_expiry, AreBegun, EachFollowed}
+use Rattle.mq_law_stopped.proofs.from_law_turns.Agreeing.{grows, sender_tells}
+use Rattle.mq_law_stopped.proofs.from_law_turns.Posting.{expires}
 use Rattle.mq_law_cables.specs.Joints.{AreJoint}
 use Rattle.mq_law_one.proofs.Running.{Told_}
 use Rattle.mq_law_run.specs.Ordered.{forced_over}
@@ -69,7 +69,7 @@ use Rattle.mq_sender.specs.States.{is_running}
 use Rattle.mq_sync.specs.declared.data.ReceiverData.{ReceiverData}
 use Rattle.mq_law_rows.specs.World.{Book, Ghost, World}
 use Rattle.mq_law_events.specs.Tied.{Follow}
-use Rattle.mq_law_story.specs.Needs.{IsTied}
+use Rattle.mq_law_one.specs.from_law_story.Needs.{IsTied}
 use Rattle.mq_law_deeds.proofs.Counting.{calls_kept}
 use Rattle.mq_law_deeds.proofs.Rising.{parts_rise}
 use Rattle.mq_law_stopped.specs.Noted.{EndNote}

@@ -18,8 +18,8 @@ use Rattle.mq_law_channel.specs.Channel.{Channel}
 use Rattle.mq_law_node.specs.Ends.{Where}
 use Rattle.mq_law_node.specs.Nodes.{EachNoted, EachNotedFar, FarAt, FarNode, NearAt, NearNode}
 use Rattle.mq_law_events.specs.Tied.{IsNext}
-use Rattle.mq_law_turns.specs.Agreed.{IsToldOf}
-use Rattle.mq_law_turns.proofs.Agreeing.{grows}
+use Rattle.mq_law_stopped.specs.from_law_turns.Agreed.{IsToldOf}
+use Rattle.mq_law_stopped.proofs.from_law_turns.Agreeing.{grows}
 use Rattle.mq_law_cables.specs.Joints.{AreCabled}
 use Rattle.mq_law_deeds.specs.Numbers.{AreCountedAt}
 use Rattle.mq_spec_network.specs.Ledger as ledgers

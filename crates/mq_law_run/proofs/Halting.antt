@@ -63,16 +63,14 @@ use Rattle.mq_law_node.proofs.SenderTable.{may_turn, turns_as}
 use Rattle.mq_law_node.proofs.Singles.{singles}
 use Rattle.mq_law_rows.proofs.Lists.{bool_case}
 use Rattle.mq_law_events.proofs.Taking.{removed_all}
-use Rattle.mq_law_found.specs.Finds.{IsNoted, stopped_call}
-use Rattle.mq_law_found.proofs.Finding.{frozen_noted}
-use Rattle.mq_law_found.proofs.Going.{IsGoing, PostsNone, removal_noted}
-use Rattle.mq_law_seen.specs.Seen.{book_of, world_of}
-use Rattle.mq_law_receipts.specs.Receipts.{Comes}
-use Rattle.mq_law_turns.specs.Turns.{EachSound, IsAtFar, Scene, is_expiry}
-use Rattle.mq_law_turns.proofs.Sending.{free_by}
-use Rattle.mq_law_turns.proofs.Sounds.{receivers_sound, senders_sound}
-use Rattle.mq_law_turns.proofs.Taking.{all_come}
-use Rattle.mq_law_cables.proofs.Keeping.{joint_of}
+use Rattle.mq_law_stopped.specs.from_law_found.Finds.{IsNoted, stopped_call}
+use Rattle.mq_law_stopped.proofs.from_law_found.Finding.{frozen_noted}
+use Rattle.mq_law_stopped.proofs.from_law_found.Going.{IsGoing, PostsNone, removal_noted}
+use Rattle.mq_law_stopped.specs.from_law_receipts.Receipts.{Comes}
+use Rattle.mq_law_stopped.specs.from_law_turns.Turns.{EachSound, IsAtFar, Scene, is_expiry}
+use Rattle.mq_law_stopped.proofs.from_law_turns.Sending.{free_by}
+use Rattle.mq_law_stopped.proofs.from_law_turns.Sounds.{receivers_sound, senders_sound}
+use Rattle.mq_law_stopped.proofs.from_law_turns.Taking.{all_come}
 use Rattle.mq_law_deeds.proofs.Sounding.{behind}
 use Rattle.mq_law_stopped.specs.Noted.{EachFirst, EachWrites, IsCommitting, IsOfEnd, SaysReceiver, SaysSender, noted_of, told_at}
 use Rattle.mq_law_stopped.proofs.Noting.{leaving_first, receiver_says, sender_says}
@@ -85,7 +83,7 @@ use Rattle.mq_law_run.proofs.Lining.{else_channel, else_index, mem_at}
 use Rattle.mq_law_run.proofs.Owning.{next_managers}
 use Rattle.mq_law_run.proofs.Receiving as receiving
 use Rattle.mq_law_run.proofs.Receiving.{channel_else}
-use Rattle.mq_law_run.proofs.Running.{scene, sends_here, sound_at, takes_here}
+use Rattle.mq_law_run.proofs.Running.{joint_here, scene, sends_here, sound_at, takes_here}
 use Rattle.mq_law_run.proofs.Sending as sending
 
 -- EXPIRED ROWS
@@ -132,28 +130,28 @@ expiry_first m x by_ left stamp e n sound keeps call reply received =
       once = differ_filter ident_of (is_expired p) (free_rows q p) (differ_filter ident_of is_free (stored q p).rows (sound.facts.apart.once q));
     }) keeps call reply received (leaving_first (IsNotedFirst m x left p) e.channel e.machine.state p)
 
--- a sender's turn receives nothing
-abbrev EachNone : Option Deed → Type 0
-EachNone None = Unit {0}
-EachNone (Some d) = d.received ≡ []
+-- a sender's turn receives nothing, and takes no memory
+abbrev pub EachBare : Option Deed → Type 0
+EachBare None = Unit {0}
+EachBare (Some d) = (d.received ≡ []) × (d.wanting ≡ None)
 
-prepare_none : (e : SenderEnd) (way : Step PrepareFault (Unit {0})) (n : Node) → EachNone (Some (prepare_deed e way n))
-prepare_none e (Refuse fault) n = refl
-prepare_none e (Do reply parts) n = refl
+prepare_bare : (e : SenderEnd) (way : Step PrepareFault (Unit {0})) (n : Node) → EachBare (Some (prepare_deed e way n))
+prepare_bare e (Refuse fault) n = (refl, refl)
+prepare_bare e (Do reply parts) n = (refl, refl)
 
-sender_none : (stamp : ℕ) (e : SenderEnd) (d : SenderDoes) (n : Node) → EachNone (sender_deed_by stamp e d n)
-sender_none stamp e does.Still n = tt
-sender_none stamp e does.Ignore n = refl
-sender_none stamp e (does.HardenSession session) n = refl
-sender_none stamp e does.PushBind n = refl
-sender_none stamp e does.Expire n = refl
-sender_none stamp e (does.Begin k count) n = refl
-sender_none stamp e (does.PushMsg index) n = refl
-sender_none stamp e does.Prepare n = prepare_none e _ n
-sender_none stamp e does.PushEnd n = refl
-sender_none stamp e (does.Bound settle partner) n = refl
-sender_none stamp e does.Commit n = refl
-sender_none stamp e (does.Backout reason) n = refl
+pub sender_bare : (stamp : ℕ) (e : SenderEnd) (d : SenderDoes) (n : Node) → EachBare (sender_deed_by stamp e d n)
+sender_bare stamp e does.Still n = tt
+sender_bare stamp e does.Ignore n = (refl, refl)
+sender_bare stamp e (does.HardenSession session) n = (refl, refl)
+sender_bare stamp e does.PushBind n = (refl, refl)
+sender_bare stamp e does.Expire n = (refl, refl)
+sender_bare stamp e (does.Begin k count) n = (refl, refl)
+sender_bare stamp e (does.PushMsg index) n = (refl, refl)
+sender_bare stamp e does.Prepare n = prepare_bare e _ n
+sender_bare stamp e does.PushEnd n = (refl, refl)
+sender_bare stamp e (does.Bound settle partner) n = (refl, refl)
+sender_bare stamp e does.Commit n = (refl, refl)
+sender_bare stamp e (does.Backout reason) n = (refl, refl)
 
 -- A SENDER'S TURN
 pub sender_halts : (s : Scenario) (hs : List History) (p : List Line) (x : Line) (z : Stand s hs p) (t : Told_ s hs p x) (i : ℕ) (k : CableLine) (d : Deed) (by_ : Stop) (n_ left : ℕ) → IsScenario s → slice_get s.cables i ≡ Some k → k.sender ≡ x.manager → x.entry.call ≡ calls.Turn
@@ -178,7 +176,7 @@ sender_halts s hs p x z t i k d by_ n_ left scenario e q call up same can is off
     let keeps : AllKeep IsSound d.parts b = subst (EachSound b) is all_keep in
     let after = behind d.parts b sound keeps in
     let reply : x.entry.reply ≡ replies.Stopped by_ = t.tells.reply ∙ ap (λ (o : Done). o.reply) same in
-    let received : x.entry.effect.received ≡ [] = t.tells.received ∙ ap (λ (o : Done). o.received) same ∙ subst EachNone is (sender_none stamp end does_ n) in
+    let received : x.entry.effect.received ≡ [] = t.tells.received ∙ ap (λ (o : Done). o.received) same ∙ (subst EachBare is (sender_bare stamp end does_ n)).0 in
     near_cut s hs p x z t i k d by_ n_ left (NearStep.Turn turn) scenario e q up same can (subst IsOfEnd (sym call) tt) sound keeps
     (subst EachSingle is (singles stamp end seen n))
     (may_turn w stamp seen b c offered)
@@ -254,7 +252,7 @@ commit_so s hs p x z t i k d g part r scenario e q from up is offered o =
             at = subst (λ a. slice_get (managers_at s p hs) a ≡ Some b) (sym q) (next_managers s hs p x t).at;
             takes_ = takes_here s hs p x z t i k e q up;
             facts = facts;
-            joint = joint_of (world_of s z.given (managers_at s p hs)) z.ghost (book_of l) s.cables z.xs z.ys k there z.joint;
+            joint = joint_here s hs p z k there;
             book = refl;
           } in
           inr (all_come zz n c y l u far (following.placed turn c y u facts may o.does) (following.awaited turn c y u facts may o.does f) (receiving.ready s hs p x z t k w scenario there q refl g from (sound_at s hs p x z t up)))) refl;

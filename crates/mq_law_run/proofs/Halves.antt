@@ -46,8 +46,8 @@ use Rattle.mq_law_node.proofs.Freezing.{goes_down}
 use Rattle.mq_law_node.proofs.NearEvents.{noted_moved, quiet_stops, running_is}
 use Rattle.mq_law_node.proofs.NearTotal.{aside_noted, near_ends, remembered_ends, same_channels}
 use Rattle.mq_law_node.proofs.Ordinary.{ordinary_is_quiet}
-use Rattle.mq_law_turns.specs.Turns.{EachSound}
-use Rattle.mq_law_turns.proofs.Reading.{stays}
+use Rattle.mq_law_stopped.specs.from_law_turns.Turns.{EachSound}
+use Rattle.mq_law_stopped.proofs.from_law_turns.Reading.{stays}
 use Rattle.mq_law_deeds.proofs.Resting.{quiet_rests}
 use Rattle.mq_law_deeds.proofs.Sounding.{behind, ordinary_kept}
 use Rattle.mq_law_one.specs.Alone.{IsOwnCall, IsState}

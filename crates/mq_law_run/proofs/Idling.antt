@@ -18,10 +18,10 @@ use Rattle.mq_law_node.specs.Nodes.{FarNode, NearNode}
 use Rattle.mq_law_rows.specs.World.{World}
 use Rattle.mq_law_seen.specs.Seen.{book_of, world_of}
 use Rattle.mq_law_events.specs.Tied.{IsNext}
-use Rattle.mq_law_batches.proofs.Wording.{stays}
-use Rattle.mq_law_turns.specs.Agreed.{IsToldOf}
-use Rattle.mq_law_turns.proofs.Agreeing.{grows}
-use Rattle.mq_law_turns.proofs.Parts.{stays_none}
+use Rattle.mq_law_stopped.proofs.from_law_batches.Wording.{stays}
+use Rattle.mq_law_stopped.specs.from_law_turns.Agreed.{IsToldOf}
+use Rattle.mq_law_stopped.proofs.from_law_turns.Agreeing.{grows}
+use Rattle.mq_law_stopped.proofs.from_law_turns.Parts.{stays_none}
 use Rattle.mq_law_cables.specs.Joints.{AreCabled, AreJoint}
 use Rattle.mq_law_deeds.specs.Numbers.{AreCountedAt}
 use Rattle.mq_law_stopped.specs.Noted.{EndNote}

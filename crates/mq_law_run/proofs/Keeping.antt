@@ -34,8 +34,8 @@ use Rattle.mq_law_node.proofs.Named.{bool_case}
 use Rattle.mq_law_node.proofs.ReceiverTurns.{placed_by}
 use Rattle.mq_law_events.specs.Posting.{IsTimed}
 use Rattle.mq_law_events.specs.Tied.{IsFresh, IsNext, IsTold}
-use Rattle.mq_law_turns.specs.Turns.{IsAtFar, Scene}
-use Rattle.mq_law_turns.proofs.Taking.{Committing, receipt_of}
+use Rattle.mq_law_stopped.specs.from_law_turns.Turns.{IsAtFar, Scene}
+use Rattle.mq_law_stopped.proofs.from_law_turns.Taking.{Committing, receipt_of}
 use Rattle.mq_law_run.proofs.Beside.{IsBeside, beside_fresh, beside_timed, beside_told, parts_add_none, parts_beside, parts_of_end}
 use Rattle.mq_law_run.proofs.Landing.{EachBoth, commit_both, landed_both}
 use Rattle.mq_law_run.proofs.Telling.{any_none, none_committed}

@@ -18,7 +18,7 @@ use Rattle.mq_spec_manager.specs.Receiving.{Landed, land_changes, landed, receiv
 use Rattle.mq_spec_manager.specs.Standing.{Absent, InDoubtAt, Present, Standing, drop_changes, drop_did, drop_row, undoubted}
 use Rattle.mq_law_channel.proofs.Told.{and_both}
 use Rattle.mq_law_run.proofs.Beside.{adds_none, all_add_none, all_of_end, is_of_end, parts_add_none, parts_of_end}
-use Rattle.mq_law_seized.proofs.Landing.{LandedHas, landed_has}
+use Rattle.mq_law_node.proofs.from_law_seized.Landing.{LandedHas, landed_has}
 
 -- of ends, and adding none
 abbrev pub Both : List Change → Type 0

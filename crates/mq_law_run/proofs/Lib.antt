@@ -43,3 +43,5 @@ pub mod Whole
 pub mod Beginning
 pub mod Recommitting
 pub mod Ordering
+pub mod from_law_one
+pub mod from_law_story

@@ -30,7 +30,7 @@ use Rattle.mq_law_manager.proofs.Named.{name_is, name_self}
 use Rattle.mq_law_manager.proofs.Lists.{mem_before, mem_behind}
 use Rattle.mq_law_rows.specs.Kinds.{among}
 use Rattle.mq_law_rows.specs.World.{Book, Ghost, InBatch, Inv, Tag, World, claim, is_forced, tag_idents}
-use Rattle.mq_law_rows.proofs.Lists.{bool_case, ident_self, map_mem, mem_map, true_false, and_left, and_right}
+use Rattle.mq_law_rows.proofs.Lists.{bool_case, same_self, map_mem, mem_map, true_false, and_left, and_right}
 use Rattle.mq_law_rows.proofs.Owners.{ledger_row, told_ident}
 use Rattle.mq_law_rows.proofs.Receiving.{mem_any}
 use Rattle.mq_law_stopped.specs.Noted.{IsForcing}
@@ -206,7 +206,7 @@ batch_told c p ds q r n e =
 -- a restart tells of those that stand still
 any_of : (i : Ident) (xs : List Row) (x : Row) → Mem x xs → x.message.ident ≡ i → list_any (has_ident i) xs ≡ true
 any_of i [] x n e = absurd n
-any_of i (y ∷ xs) x (inl s) e = ap (λ t. t || list_any (has_ident i) xs) (ap (λ (z : Row). same_ident z.message.ident i) (sym s) ∙ ap (λ j. same_ident j i) e ∙ ident_self i)
+any_of i (y ∷ xs) x (inl s) e = ap (λ t. t || list_any (has_ident i) xs) (ap (λ (z : Row). same_ident z.message.ident i) (sym s) ∙ ap (λ j. same_ident j i) e ∙ same_self i)
 any_of i (y ∷ xs) x (inr n) e = ap (λ t. has_ident i y || t) (any_of i xs x n e) ∙ or_true (has_ident i y)
 
 row_stands : (q : List ℕ) (qs : List Queue) (x : Row) → Mem x (queue_in q qs).rows → list_any (λ (y : Queue). list_any (has_ident x.message.ident) y.rows) qs ≡ true
@@ -231,7 +231,7 @@ sent_lasts r p (did.Hardened c note ∷ ds) i n e = sent_lasts r p ds i n e
 sent_lasts r p (did.Prepared c u ∷ ds) i n e = sent_lasts r p ds i n e
 sent_lasts r p (did.Received c u ∷ ds) i n e = sent_lasts r p ds i n e
 
-hardened_lasts : (r : LogRecord) (b : Plain) (c : List ℕ) (w : Note) (ds : List Did) → Mem (did.Hardened c w) ds → Mem (did.Hardened c w) (filter (lasts r b) ds)
+pub hardened_lasts : (r : LogRecord) (b : Plain) (c : List ℕ) (w : Note) (ds : List Did) → Mem (did.Hardened c w) ds → Mem (did.Hardened c w) (filter (lasts r b) ds)
 hardened_lasts r b c w [] n = absurd n
 hardened_lasts r b c w (d ∷ ds) (inl e) = subst (λ (o : Did). Mem (did.Hardened c w) (filter (lasts r b) (o ∷ ds))) e (inl refl)
 hardened_lasts r b c w (d ∷ ds) (inr n) = bool_case (lasts r b d) (λ t. Mem (did.Hardened c w) (if t then d ∷ filter (lasts r b) ds else filter (lasts r b) ds)) (λ z. inr (hardened_lasts r b c w ds n)) (λ z. hardened_lasts r b c w ds n)

@@ -43,9 +43,9 @@ use Rattle.mq_spec_network.specs.Promised.{Premises}
 use Rattle.mq_spec_network.specs.Standing.{node_after}
 use Rattle.mq_spec_network.specs.Story.{Line, Mem, part}
 use Rattle.mq_law_rows.proofs.Lists.{bool_case, eqb_self, eqb_yes}
-use Rattle.mq_law_keys.specs.Keys.{AreKeyed, keys}
-use Rattle.mq_law_keys.proofs.Starting.{run_keyed}
-use Rattle.mq_law_keys.proofs.Telling.{one_cable, receiver_mem, sender_mem, true_false}
+use Rattle.mq_law_deeds.specs.from_law_keys.Keys.{AreKeyed, keys}
+use Rattle.mq_law_deeds.proofs.from_law_keys.Starting.{run_keyed}
+use Rattle.mq_law_deeds.proofs.from_law_keys.Telling.{one_cable, receiver_mem, sender_mem, true_false}
 use Rattle.mq_law_node.specs.Ends.{receiver_of, sender_of}
 use Rattle.mq_law_node.proofs.NearDoes.{here_case}
 use Rattle.mq_law_one.proofs.Running.{Told_}

@@ -26,9 +26,9 @@ use Rattle.mq_law_channel.specs.Channel.{Channel}
 use Rattle.mq_law_node.specs.Nodes.{FarNode, NearNode}
 use Rattle.mq_law_seen.specs.Seen.{book_of, world_of}
 use Rattle.mq_law_events.specs.Tied.{IsElse, IsNext, IsTold}
-use Rattle.mq_law_story.proofs.Weaving.{ledger_step, manager_at, other_manager, this_manager}
-use Rattle.mq_law_turns.specs.Agreed.{IsToldOf}
-use Rattle.mq_law_turns.proofs.Agreeing.{grows}
+use Rattle.mq_law_one.proofs.from_law_story.Weaving.{ledger_step, manager_at, other_manager, this_manager}
+use Rattle.mq_law_stopped.specs.from_law_turns.Agreed.{IsToldOf}
+use Rattle.mq_law_stopped.proofs.from_law_turns.Agreeing.{grows}
 use Rattle.mq_law_cables.specs.Joints.{AreJoint}
 use Rattle.mq_law_deeds.specs.Numbers.{AreCountedAt, IsNext as IsNextNumber}
 use Rattle.mq_law_stopped.specs.Noted.{EndNote}

@@ -16,7 +16,7 @@ use Rattle.mq_spec_network.specs.Lawful.{IsLawful}
 use Rattle.mq_spec_network.specs.Story.{IsStory, Line, Mem, entries_at}
 use Rattle.mq_law_channel.specs.Turns.{SeenIn}
 use Rattle.mq_law_rows.proofs.Lists.{eqb_self, eqb_yes}
-use Rattle.mq_law_story.proofs.Weaving.{popped_in_prefix}
+use Rattle.mq_law_one.proofs.from_law_story.Weaving.{popped_in_prefix}
 use Rattle.mq_law_run.specs.Run.{Stand}
 
 -- an item

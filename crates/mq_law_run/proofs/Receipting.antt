@@ -40,10 +40,10 @@ use Rattle.mq_law_rows.proofs.Receiving.{mem_all}
 use Rattle.mq_law_rows.proofs.Young.{before_kept}
 use Rattle.mq_law_seen.specs.Seen.{book_of}
 use Rattle.mq_law_events.specs.Tied.{IsNext}
-use Rattle.mq_law_receipts.specs.Receipts.{IsAwaitedAt}
-use Rattle.mq_law_receipts.proofs.Knowing.{idents_tagged}
-use Rattle.mq_law_turns.specs.Turns.{IsAtFar, Scene, world_in}
-use Rattle.mq_law_turns.proofs.Taking.{Committing, found_at, receipt_of}
+use Rattle.mq_law_stopped.specs.from_law_receipts.Receipts.{IsAwaitedAt}
+use Rattle.mq_law_stopped.proofs.from_law_receipts.Knowing.{idents_tagged}
+use Rattle.mq_law_stopped.specs.from_law_turns.Turns.{IsAtFar, Scene, world_in}
+use Rattle.mq_law_stopped.proofs.from_law_turns.Taking.{Committing, found_at, receipt_of}
 use Rattle.mq_law_run.specs.Ordered.{AreForced, AreListed, IsOnly}
 use Rattle.mq_law_run.proofs.Dropping.{forced_is}
 use Rattle.mq_law_run.proofs.Keeping.{post_of}

@@ -62,17 +62,17 @@ use Rattle.mq_law_rows.specs.World.{Book, World}
 use Rattle.mq_law_rows.proofs.Lists.{bool_case, eqb_self, here_self, here_yes, keep_all, true_false, and_left, and_right}
 use Rattle.mq_law_seen.specs.Seen.{book_of, world_of}
 use Rattle.mq_law_events.specs.Tied.{AreShelved}
-use Rattle.mq_law_story.proofs.Weaving.{ledger_step, manager_at}
-use Rattle.mq_law_receipts.specs.Receipts.{IsCabled}
-use Rattle.mq_law_receipts.proofs.Cabling.{cabled}
-use Rattle.mq_law_turns.specs.Agreed.{IsToldOf, TellsCommit}
-use Rattle.mq_law_turns.specs.Turns.{EachSound, EachTaken, IsAtFar, IsReady, Scene, Taken, world_in}
-use Rattle.mq_law_turns.proofs.Agreeing.{agreed, grows, receiver_tells}
-use Rattle.mq_law_turns.proofs.Reading.{receivers_others, stays}
-use Rattle.mq_law_turns.proofs.Sounds.{receivers_sound}
-use Rattle.mq_law_turns.proofs.Taking as taking
+use Rattle.mq_law_one.proofs.from_law_story.Weaving.{ledger_step, manager_at}
+use Rattle.mq_law_stopped.specs.from_law_receipts.Receipts.{IsCabled}
+use Rattle.mq_law_stopped.proofs.from_law_receipts.Cabling.{cabled}
+use Rattle.mq_law_stopped.specs.from_law_turns.Agreed.{IsToldOf, TellsCommit}
+use Rattle.mq_law_stopped.specs.from_law_turns.Turns.{EachSound, EachTaken, IsAtFar, IsReady, Scene, Taken, world_in}
+use Rattle.mq_law_stopped.proofs.from_law_turns.Agreeing.{agreed, grows, receiver_tells}
+use Rattle.mq_law_stopped.proofs.from_law_turns.Reading.{receivers_others, stays}
+use Rattle.mq_law_stopped.proofs.from_law_turns.Sounds.{receivers_sound}
+use Rattle.mq_law_stopped.proofs.from_law_turns.Taking as taking
 use Rattle.mq_law_cables.proofs.Differing.{leads}
-use Rattle.mq_law_cables.proofs.Keeping.{joint_of, taken_joint}
+use Rattle.mq_law_cables.proofs.Keeping.{taken_joint}
 use Rattle.mq_law_deeds.specs.Deeds.{each_delta}
 use Rattle.mq_law_deeds.proofs.Counting.{numbered}
 use Rattle.mq_law_deeds.proofs.Resting.{EachRests, takes_rests}
@@ -93,7 +93,7 @@ use Rattle.mq_law_run.proofs.Later.{places_anew}
 use Rattle.mq_law_run.proofs.Listing.{forced_still, quiet_order}
 use Rattle.mq_law_run.proofs.Receipting.{EachCommits, IsCommitOf, commits_by, landed_listed, landed_order}
 use Rattle.mq_law_run.proofs.Lining.{index_of, all_moved, else_index, left_aside, mem_at, same_cable, same_index, here}
-use Rattle.mq_law_run.proofs.Running.{IsRun, move_to, run_next, scene, sends_here, sound_at, takes_here, told_all}
+use Rattle.mq_law_run.proofs.Running.{IsRun, joint_here, move_to, run_next, scene, sends_here, sound_at, takes_here, told_all}
 use Rattle.mq_law_run.proofs.Telling.{deeds_more, risen_told, still_not, told_before, told_now}
 
 -- each manager has its number
@@ -283,7 +283,7 @@ receiver_moves s hs whole p es x z t i k d g scenario none split e q from actor 
     let zz : Scene = scene s hs p z k w in
     let next = run_next s hs p x t d k.receiver r q in
     let ms : List Plain = managers_at s (p ++ x ∷ []) hs in
-    let joint = joint_of (world_of s z.given (managers_at s p hs)) z.ghost (book_of l) s.cables z.xs z.ys k there z.joint in
+    let joint = joint_here s hs p z k there in
     let taking_ : EachTaking (Some d) = subst EachTaking is (takes_so stamp end seen does n) in
     let delta : x.entry.effect.delta ≡ delta_of d.parts = t.tells.delta ∙ ap (λ (o : Done). o.delta) r.is in
     let reply : x.entry.reply ≡ d.reply = t.tells.reply ∙ ap (λ (o : Done). o.reply) r.is in

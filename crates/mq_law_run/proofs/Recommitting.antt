@@ -66,7 +66,7 @@ use Rattle.mq_law_node.proofs.Moving.{far_keeps}
 use Rattle.mq_law_node.proofs.NearEvents.{redone_data}
 use Rattle.mq_law_manager.proofs.Named.{name_is}
 use Rattle.mq_law_manager.proofs.Lists.{mem_before, mem_behind}
-use Rattle.mq_law_seized.proofs.Landing.{LandedHas, landed_has}
+use Rattle.mq_law_node.proofs.from_law_seized.Landing.{LandedHas, landed_has}
 use Rattle.mq_law_rows.specs.Families.{put_at}
 use Rattle.mq_law_rows.specs.Kinds.{among, is_lost, place_all}
 use Rattle.mq_law_rows.specs.World.{Book, tag_idents}
@@ -75,19 +75,18 @@ use Rattle.mq_law_seen.specs.Seen.{book_of, world_of}
 use Rattle.mq_law_seen.proofs.Bridges.{loses_rows}
 use Rattle.mq_law_events.specs.Posting.{IsTimed}
 use Rattle.mq_law_events.specs.Tied.{IsNext, IsTold}
-use Rattle.mq_law_events.proofs.Telling.{else_changed, here_changed}
-use Rattle.mq_law_story.proofs.Agreeing.{backout_borne}
-use Rattle.mq_law_story.proofs.Weaving.{manager_at}
-use Rattle.mq_law_found.specs.Finds.{posted_again}
-use Rattle.mq_law_receipts.specs.Receipts.{Comes as ComesIn, IsAwaitedAt, IsCabled}
-use Rattle.mq_law_receipts.proofs.Cabling.{cabled}
-use Rattle.mq_law_receipts.proofs.Landing.{all_landed, is_landed, plain_one}
-use Rattle.mq_law_turns.specs.Agreed.{IsToldOf, TellsCommit}
-use Rattle.mq_law_turns.specs.Turns.{IsHome, IsJoint, Scene, Taken, world_in}
-use Rattle.mq_law_turns.proofs.Agreeing.{agreed, grows, received_told, receiver_tells}
-use Rattle.mq_law_turns.proofs.Taking.{found_at}
+use Rattle.mq_law_one.proofs.from_law_story.Agreeing.{backout_borne}
+use Rattle.mq_law_one.proofs.from_law_story.Weaving.{manager_at}
+use Rattle.mq_law_stopped.specs.from_law_found.Finds.{posted_again}
+use Rattle.mq_law_stopped.specs.from_law_receipts.Receipts.{Comes as ComesIn, IsAwaitedAt, IsCabled}
+use Rattle.mq_law_stopped.proofs.from_law_receipts.Cabling.{cabled}
+use Rattle.mq_law_stopped.proofs.from_law_receipts.Landing.{all_landed, is_landed, plain_one}
+use Rattle.mq_law_stopped.specs.from_law_turns.Agreed.{IsToldOf, TellsCommit}
+use Rattle.mq_law_stopped.specs.from_law_turns.Turns.{IsHome, IsJoint, Scene, Taken, world_in}
+use Rattle.mq_law_stopped.proofs.from_law_turns.Agreeing.{agreed, grows, received_told, receiver_tells}
+use Rattle.mq_law_stopped.proofs.from_law_turns.Taking.{found_at}
 use Rattle.mq_law_cables.proofs.Differing.{leads}
-use Rattle.mq_law_cables.proofs.Keeping.{joint_of, taken_joint}
+use Rattle.mq_law_cables.proofs.Keeping.{taken_joint}
 use Rattle.mq_law_cables.proofs.Unprepared.{unprepared_still}
 use Rattle.mq_law_one.specs.Alone.{as_left}
 use Rattle.mq_law_one.proofs.Running.{Told_}
@@ -98,7 +97,6 @@ use Rattle.mq_law_run.specs.Ordered.{forced_over}
 use Rattle.mq_law_run.specs.Run.{HaveSenders, Housed, Moves, Stand, back_done, far_at, near_at}
 use Rattle.mq_law_run.proofs.Later.{later_self}
 use Rattle.mq_law_run.proofs.Receipting.{IsLanded, landed_listed, landed_order}
-use Rattle.mq_law_run.proofs.Returning.{alone, clear}
 use Rattle.mq_law_run.proofs.Beside.{adds_none, all_add_none}
 use Rattle.mq_law_run.proofs.Cabled.{all_cabled, same_batches}
 use Rattle.mq_law_run.proofs.Commanding.{told_here, told_of}
@@ -107,8 +105,8 @@ use Rattle.mq_law_run.proofs.Landing.{EachBoth, landed_both}
 use Rattle.mq_law_run.proofs.Lining.{else_index, here, index_of, mem_at, same_cable, same_index}
 use Rattle.mq_law_run.proofs.Owning.{next_managers}
 use Rattle.mq_law_run.proofs.Receiving.{channel_else, committed_apart, not_loose, numbers_of, only_one, operated_old, shelved_of, upto_below, upto_on, upto_self}
-use Rattle.mq_law_run.proofs.Redoing.{FarPart, NearPart, end_returns, mid_of}
-use Rattle.mq_law_run.proofs.Running.{far_here, near_here, scene, told_all}
+use Rattle.mq_law_run.proofs.Redoing.{FarPart, NearPart, alone, clear, end_returns, mid_next, mid_of, part_of}
+use Rattle.mq_law_run.proofs.Running.{far_here, joint_here, near_here, scene, told_all}
 use Rattle.mq_law_run.proofs.Telling.{deeds_more, risen_told, still_not, told_before, told_now}
 
 -- WHAT IT TELLS: its own commit, and no other
@@ -230,13 +228,13 @@ commit_returns s hs wide p es x z t noted starts started st i k scenario peace s
       shelved = shelved_of s hs p z;
     } in
     let at_b : slice_get ps m ≡ Some b = (next_managers s hs p x t).at in
-    let joint0 : IsJoint (world_in zz) z.ghost zz.book k.sender k.receiver ch c y = joint_of (world_of s z.given ps) z.ghost (book_of l) s.cables z.xs z.ys k there z.joint in
+    let joint0 : IsJoint (world_in zz) z.ghost zz.book k.sender k.receiver ch c y = joint_here s hs p z k there in
     let found : CommitFound zz b l noted st c1 y = commit_found zz b c y l noted st (deeds p) k.sender note (subst (λ v. slice_get ps v ≡ Some b) (sym q) at_b) joint0 refl placed waits home comes in
     let g : Plain = found.behind in
     let to : ℕ → Ledger = λ v. posted_again v st ds l in
     let kn : Ledger = to m in
     let mid : List Plain = mid_of s hs p x g in
-    let n1 : IsNext m b g ps mid = record { at = at_b; to = here_changed m (λ (o : Plain). g) ps b at_b; others = λ d f. else_changed m d (λ (o : Plain). g) ps f } in
+    let n1 : IsNext m b g ps mid = mid_next s hs p x t g in
     let nk : IsNext k.receiver b g ps mid = subst (λ d. IsNext d b g ps mid) (sym q) n1 in
     let r : Taken zz (world_of s z.given mid) (book_of found.posted) c1 y = found.taken mid nk in
     let xs : ℕ → List ℕ → Channel = put_at z.xs k.sender ch c1 in
@@ -263,8 +261,40 @@ commit_returns s hs wide p es x z t noted starts started st i k scenario peace s
     let answered : x.entry.reply ≡ replies.Acted acted.Done = t.tells.reply ∙ ap (λ (o : Done). o.reply) is in
     let came : committed_messages l x ≡ st.entry.effect.received = λ e. messages_found (answered e) (chance e) x.entry.effect.received (cut e) in
     end_returns s hs p x z t noted starts started st z.given r.ghost xs ys g found.posted kn scenario down call chance is cut refl (note.sound started b.running b.moment b.log) found.lasts_ (record {
-      joint = joint;
-      facts = all_facts;
+      channels = record {
+        joint = joint;
+        facts = all_facts;
+        near = λ j h f o. near_part g found.channels j h f o;
+        far = λ j h f o. far_part g found.channels j h f o;
+        aside = λ h o f e. part_of (λ o_ d ch_. d ≡ o_) z.xs k h c1 (λ v. absurd (true_false (sym (ap (λ b_. b_ == m) (ap (λ (v_ : CableLine). v_.receiver) (one_here h o v) ∙ q) ∙ eqb_self m) ∙ e))) (λ v. refl);
+        tells = λ h o. subst (λ v. IsToldOf s os v h.sender h.channel (xs h.sender h.channel) (ys h.sender h.channel)) (sym (deeds_more p x))
+            (told_all s os (deeds p) (deeds_in m x.entry.effect.delta) k c1 y z.xs z.ys
+            (receiver_tells s os (deeds p ++ deeds_in m x.entry.effect.delta) k.sender ch c y turn (tells_so turn.outcome (receiver_does turn c) ch u (deeds p ++ deeds_in m x.entry.effect.delta) note.commits.ran note.commits.does (m, mem_behind it (deeds p) (deeds_in m x.entry.effect.delta) tells))
+            (grows s os (deeds p) (deeds_in m x.entry.effect.delta) k.sender ch c y (z.told k there))) z.told h o);
+        resolved = λ d e v f. told_before p x _ (z.resolved d e v (old d e v f));
+        not_yet = λ d e v f. still_not s os p x e v (only e v ∙ or_false (bytes_eq e ch && same_unit v u) (bool_case (bytes_eq e ch && same_unit v u) (λ o. (bytes_eq e ch && same_unit v u) ≡ o → o ≡ false)
+            (λ o yes.
+            let ne : e ≡ ch = name_is e ch (and_left (bytes_eq e ch) (same_unit v u) yes) in
+            let nv : v ≡ u = unit_yes v u (and_right (bytes_eq e ch) (same_unit v u) yes) in
+            let own = z.owned d e v (old d e v f) in
+            let same : own.1 ≡ k = same_cable s own.0 i own.1 k own.2 at_k (same_index s own.0 i own.1 k scenario own.2 at_k (own.4 ∙ ne)) in
+            let nd : d ≡ k.sender = sym own.3 ∙ ap (λ (h : CableLine). h.sender) same in
+            absurd (committed_apart zz (world_of s z.given mid) (book_of found.posted) c y turn u v r joint0.tied.last note.commits.does note.commits.ran placed.rises nv
+            (subst (λ o. r.ghost.operated k.sender o v ≡ true) ne (subst (λ o. r.ghost.operated o e v ≡ true) nd f))))
+            (λ o no_. refl) refl)) (z.not_yet d e v (old d e v f));
+        risen = λ h o v f. bool_case (here k h) (λ e. here k h ≡ e → Upto v (if e then c1 else z.xs h.sender h.channel).receives.unit)
+            (λ e yes. mine_rises v c1.receives.unit (subst (λ (d : Luw). Upto u d) (sym c1_unit) (upto_self u))
+            (subst (λ (d : Luw). Upto c.receives.unit d) (sym c1_unit) (upto_below c.receives.unit u placed.rises)) (ap (λ (d : List ℕ). is_committed s os (deeds (p ++ x ∷ [])) d v) (sym (here_yes k.sender ch h.sender h.channel yes).1) ∙ f) (only ch v))
+            (λ e no_. risen_told s os p x h.channel (z.xs h.sender h.channel).receives.unit (z.risen h o) v (only h.channel v ∙ or_false (bytes_eq h.channel ch && same_unit v u) (ap (λ b_. b_ && same_unit v u) (else_name h o no_))) f) refl;
+        owned = λ d e v f. z.owned d e v (old d e v f);
+        loose = λ d e v f. (λ o. sym r.loose o d e v) ∙ f;
+        listed = landed_listed (world_of s z.given ps) z.ghost r.ghost l found.posted k.sender k.receiver ch u x.entry.effect.delta z.joint.inv waiting.commits landed_ (λ d e v f. (
+          old d e v f,
+          (λ o. r.sent o d e v),
+          λ from_ name unit_. committed_apart zz (world_of s z.given mid) (book_of found.posted) c y turn u v r joint0.tied.last note.commits.does note.commits.ran placed.rises unit_
+              (subst (λ o. r.ghost.operated k.sender o v ≡ true) name (subst (λ o. r.ghost.operated o e v ≡ true) from_ f)),
+        ));
+      };
       told = told_m;
       fresh = found.fresh;
       now = now_m;
@@ -275,41 +305,10 @@ commit_returns s hs wide p es x z t noted starts started st i k scenario peace s
       free = unprepared_still s z.given mid r.ghost (book_of found.posted) s.cables xs ys m g n1.to (one_on (redone noted b) g (sym found.channels) (one_redone noted b note.one))
           (same_batches s.cables m (redone noted b) g (ap (λ (o : Channels). o.batches) found.channels)
           (all_cabled s.cables m noted.changes (record b { log = stands_in noted.written b.log }) (none_added both.0.1) (same_batches s.cables m b (record b { log = stands_in noted.written b.log }) refl (z.cabled m t.h t.is)))) all_facts joint;
-      near = λ j h f o. near_part g found.channels j h f o;
-      far = λ j h f o. far_part g found.channels j h f o;
-      aside = λ h o f e. bool_case (here k h) (λ v. here k h ≡ v → (if v then c1 else z.xs h.sender h.channel) ≡ z.xs h.sender h.channel)
-          (λ d v. absurd (true_false (sym (ap (λ b_. b_ == m) (ap (λ (v_ : CableLine). v_.receiver) (one_here h o v) ∙ q) ∙ eqb_self m) ∙ e))) (λ d v. refl) refl;
       known = λ j f. refl;
       others = λ d o ne h. subst (λ v. IsTold d o (to v)) q (found.others d o (subst (λ v. (d == v) ≡ false) (sym q) ne) h);
       users = λ d f. ap (λ (us : List Users). slice_get us d) users_m;
       housed = housed_so ds;
-      tells = λ h o. subst (λ v. IsToldOf s os v h.sender h.channel (xs h.sender h.channel) (ys h.sender h.channel)) (sym (deeds_more p x))
-          (told_all s os (deeds p) (deeds_in m x.entry.effect.delta) k c1 y z.xs z.ys
-          (receiver_tells s os (deeds p ++ deeds_in m x.entry.effect.delta) k.sender ch c y turn (tells_so turn.outcome (receiver_does turn c) ch u (deeds p ++ deeds_in m x.entry.effect.delta) note.commits.ran note.commits.does (m, mem_behind it (deeds p) (deeds_in m x.entry.effect.delta) tells))
-          (grows s os (deeds p) (deeds_in m x.entry.effect.delta) k.sender ch c y (z.told k there))) z.told h o);
-      resolved = λ d e v f. told_before p x _ (z.resolved d e v (old d e v f));
-      not_yet = λ d e v f. still_not s os p x e v (only e v ∙ or_false (bytes_eq e ch && same_unit v u) (bool_case (bytes_eq e ch && same_unit v u) (λ o. (bytes_eq e ch && same_unit v u) ≡ o → o ≡ false)
-          (λ o yes.
-          let ne : e ≡ ch = name_is e ch (and_left (bytes_eq e ch) (same_unit v u) yes) in
-          let nv : v ≡ u = unit_yes v u (and_right (bytes_eq e ch) (same_unit v u) yes) in
-          let own = z.owned d e v (old d e v f) in
-          let same : own.1 ≡ k = same_cable s own.0 i own.1 k own.2 at_k (same_index s own.0 i own.1 k scenario own.2 at_k (own.4 ∙ ne)) in
-          let nd : d ≡ k.sender = sym own.3 ∙ ap (λ (h : CableLine). h.sender) same in
-          absurd (committed_apart zz (world_of s z.given mid) (book_of found.posted) c y turn u v r joint0.tied.last note.commits.does note.commits.ran placed.rises nv
-          (subst (λ o. r.ghost.operated k.sender o v ≡ true) ne (subst (λ o. r.ghost.operated o e v ≡ true) nd f))))
-          (λ o no_. refl) refl)) (z.not_yet d e v (old d e v f));
-      risen = λ h o v f. bool_case (here k h) (λ e. here k h ≡ e → Upto v (if e then c1 else z.xs h.sender h.channel).receives.unit)
-          (λ e yes. mine_rises v c1.receives.unit (subst (λ (d : Luw). Upto u d) (sym c1_unit) (upto_self u))
-          (subst (λ (d : Luw). Upto c.receives.unit d) (sym c1_unit) (upto_below c.receives.unit u placed.rises)) (ap (λ (d : List ℕ). is_committed s os (deeds (p ++ x ∷ [])) d v) (sym (here_yes k.sender ch h.sender h.channel yes).1) ∙ f) (only ch v))
-          (λ e no_. risen_told s os p x h.channel (z.xs h.sender h.channel).receives.unit (z.risen h o) v (only h.channel v ∙ or_false (bytes_eq h.channel ch && same_unit v u) (ap (λ b_. b_ && same_unit v u) (else_name h o no_))) f) refl;
-      owned = λ d e v f. z.owned d e v (old d e v f);
-      loose = λ d e v f. (λ o. sym r.loose o d e v) ∙ f;
-      listed = landed_listed (world_of s z.given ps) z.ghost r.ghost l found.posted k.sender k.receiver ch u x.entry.effect.delta z.joint.inv waiting.commits landed_ (λ d e v f. (
-        old d e v f,
-        (λ o. r.sent o d e v),
-        λ from_ name unit_. committed_apart zz (world_of s z.given mid) (book_of found.posted) c y turn u v r joint0.tied.last note.commits.does note.commits.ran placed.rises unit_
-            (subst (λ o. r.ghost.operated k.sender o v ≡ true) name (subst (λ o. r.ghost.operated o e v ≡ true) from_ f)),
-      ));
       order = subst (λ o. OrderAt o (forced_over [] p) x l (ledgers.up_again m kn)) (sym told_unit)
           (subst (λ (o : ℕ). KeepsOrder (others_of ch u (forced_over [] p)) o x.entry.effect.delta (committed_messages l x) l (ledgers.up_again o (to o))) q
           (landed_order (world_of s z.given ps) z.ghost l found.posted (ledgers.up_again k.receiver (to k.receiver)) k.sender k.receiver ch u (forced_over [] p) x.entry.effect.delta (committed_messages l x) (λ (o : Row). not (is_lost k.receiver k.receiver o))
@@ -356,9 +355,9 @@ commit_returns s hs wide p es x z t noted starts started st i k scenario peace s
         let c : Channel = z.xs k.sender k.channel in
         let ld : Landed = note.commits.land in
         let told : ToldSender h.channel (Ok ld) = subst (ToldSender h.channel) note.commits.lands (landed_told h.channel k.channel (map stamped c.kept) note.was) in
-        bool_case (here k h) (λ v. here k h ≡ v → NearPart (z.xs h.sender h.channel) (if v then receiver_turn note.turn c else z.xs h.sender h.channel) h.channel g)
-        (λ d v. absurd ((z.joint.tied k (mem_at s.cables i k at_k)).apart (q ∙ sym (sym (here_yes k.sender k.channel h.sender h.channel v).0 ∙ o))))
-        (λ d v.
+        part_of (λ o_ e ch. NearPart o_ e ch g) z.xs k h (receiver_turn note.turn c)
+        (λ v. absurd ((z.joint.tied k (mem_at s.cables i k at_k)).apart (q ∙ sym (sym (here_yes k.sender k.channel h.sender h.channel v).0 ∙ o))))
+        (λ v.
         let v1 : SendsDown (near_at s j h) (node_after s x.manager p t.h) (Some noted) (z.xs h.sender h.channel) = subst (NearAt (near_at s j h) (node_after s x.manager p t.h) (z.xs h.sender h.channel)) down (near_here s hs p x z t j h f o) in (
           record { receives = refl; receiver = refl; kept = refl; back = refl },
           (λ fr n. n),
@@ -368,7 +367,7 @@ commit_returns s hs wide p es x z t noted starts started st i k scenario peace s
               ∙ ap (λ (e : Option SenderData). told_sends (sender_or e)) (sender_changes h.channel ld.changes (SetReceiver k.channel (record (receiver_or (receiver_data k.channel note.was)) { unit = note.commits.unit; last = note.commits.last }) ∷ []) (sender_data h.channel b))
               ∙ told (sender_data h.channel b)),
           later_self (z.xs h.sender h.channel),
-        )) refl
+        ))
 
     far_part : (g : Plain) → g.channels ≡ (redone noted (node_after s x.manager p t.h).manager).channels → (j : ℕ) (h : CableLine) → slice_get s.cables j ≡ Some h → h.receiver ≡ x.manager
         → FarPart (z.xs h.sender h.channel) (put_at z.xs k.sender k.channel (receiver_turn note.turn (z.xs k.sender k.channel)) h.sender h.channel) h.channel g
@@ -377,15 +376,13 @@ commit_returns s hs wide p es x z t noted starts started st i k scenario peace s
         let c : Channel = z.xs k.sender k.channel in
         let ld : Landed = note.commits.land in
         let quiet : QuietReceiver h.channel (Ok ld) = subst (QuietReceiver h.channel) note.commits.lands (landed_receiver h.channel k.channel (map stamped c.kept) note.was) in
-        bool_case (here k h) (λ v. here k h ≡ v → FarPart (z.xs h.sender h.channel) (if v then receiver_turn note.turn c else z.xs h.sender h.channel) h.channel g)
-        (λ d v.
-        let u = here_yes k.sender k.channel h.sender h.channel v in
-        subst (λ (e : List ℕ). FarPart (z.xs h.sender e) (receiver_turn note.turn c) e g) (sym u.1) (subst (λ (e : ℕ). FarPart (z.xs e k.channel) (receiver_turn note.turn c) k.channel g) (sym u.0) (
+        part_of (λ o_ e ch. FarPart o_ e ch g) z.xs k h (receiver_turn note.turn c)
+        (λ v. (
           far_near (FarStep.Turn note.turn) c,
           (λ fr n. subst (λ (fs : List Frame). Mem fr fs) (sym note.back) n),
           note.data_ ∙ sym ((λ e. told_receives (receiver_or (receiver_in k.channel (channels e).receivers))) ∙ ap (λ (e : Option ReceiverData). told_receives (receiver_or e)) (far_redone_data k.channel noted b)),
-        )))
-        (λ d v.
+        ))
+        (λ v.
         let v1 : TakesDown (far_at s j h) (node_after s x.manager p t.h) (Some noted) (z.xs h.sender h.channel) = subst (FarAt (far_at s j h) (node_after s x.manager p t.h) (z.xs h.sender h.channel)) down (far_here s hs p x z t j h f o) in
         let other : bytes_eq h.channel k.channel ≡ false = channel_else s i j k h scenario at_k f (else_index s i j k h at_k f v) in
         let data_ : ReceiverData = record (receiver_or (receiver_data k.channel note.was)) { unit = note.commits.unit; last = note.commits.last } in (
@@ -396,4 +393,4 @@ commit_returns s hs wide p es x z t noted starts started st i k scenario peace s
               ∙ ap (λ (e : Noted). receiver_by_all h.channel e.changes (receiver_data h.channel b)) (note.is ∙ (λ e. noted_of (note.commits.part_ e) (note.commits.record_ e)))
               ∙ receiver_changes h.channel ld.changes (SetReceiver k.channel data_ ∷ []) (receiver_data h.channel b)
               ∙ ap (λ b_. if b_ then Some data_ else receiver_by_all h.channel ld.changes (receiver_data h.channel b)) other ∙ quiet (receiver_data h.channel b))),
-        )) refl
+        ))

@@ -52,10 +52,10 @@ use Rattle.mq_law_node.proofs.Operators.{doubt_there, resolve_deed, resolves_bat
 use Rattle.mq_law_node.proofs.SenderTurns.{leaves}
 use Rattle.mq_law_seen.specs.Seen.{rows_of, world_of}
 use Rattle.mq_law_events.specs.Tied.{IsNext}
-use Rattle.mq_law_turns.specs.Agreed.{IsToldOf}
-use Rattle.mq_law_turns.specs.Turns.{IsAt, Scene, TurnedBy, world_in}
-use Rattle.mq_law_turns.proofs.Agreeing.{backout_tells, backs_out_rightly, commit_tells, grows}
-use Rattle.mq_law_turns.proofs.Operating.{resolves_backout, resolves_commit, resolves_committed}
+use Rattle.mq_law_stopped.specs.from_law_turns.Agreed.{IsToldOf}
+use Rattle.mq_law_stopped.specs.from_law_turns.Turns.{IsAt, Scene, TurnedBy, world_in}
+use Rattle.mq_law_stopped.proofs.from_law_turns.Agreeing.{backout_tells, backs_out_rightly, commit_tells, grows}
+use Rattle.mq_law_stopped.proofs.from_law_turns.Operating.{resolves_backout, resolves_commit, resolves_committed}
 use Rattle.mq_law_run.specs.Run.{IsRunning, Moves, Stand, near_at}
 use Rattle.mq_law_run.proofs.Commanding.{Commands, all_leave, commanded, leave_behind, none_commits, refuses, told_here, told_of, up_so}
 use Rattle.mq_law_stopped.specs.Noted.{IsForcing}
@@ -65,20 +65,31 @@ use Rattle.mq_law_run.proofs.Running.{scene}
 use Rattle.mq_law_run.proofs.Sending.{none_forced_now}
 use Rattle.mq_law_run.proofs.Telling.{deeds_more, told_now}
 
-settle_leave : (rs : List Remove) → all_leave (map (settle_did false) rs) ≡ true
-settle_leave [] = refl
-settle_leave (r ∷ rs) = settle_leave rs
+-- WHAT A SETTLEMENT TELLS
+abbrev resolved_did : (commit : Bool) → List ℕ → Luw → Did
+resolved_did commit c u = did.Hardened c (notes.Resolved u commit true)
 
--- what it tells
-abbrev backed_out : List ℕ → Luw → Did
-backed_out c u = did.Hardened c (notes.Resolved u false true)
+abbrev settle_told : (commit : Bool) → Where → Luw → Node → List Did
+settle_told commit w u n = (map (settle_did commit) (held_rows (holders.Batch w.channel) n.manager) ++ resolved_did commit w.channel u ∷ []) ++ []
 
-tells_it : (w : Where) (d : InDoubt) (n : Node) → Mem (backed_out w.channel d.unit) (delta_of (resolve_deed w settles.Backout d n).parts)
-tells_it w d n =
-    let e : Did = backed_out w.channel d.unit in
-    let ds : List Did = map (settle_did false) (held_rows (holders.Batch w.channel) n.manager) in
+tells_it : (commit : Bool) (w : Where) (u : Luw) (n : Node) → Mem (resolved_did commit w.channel u) (settle_told commit w u n)
+tells_it commit w u n =
+    let e : Did = resolved_did commit w.channel u in
+    let ds : List Did = map (settle_did commit) (held_rows (holders.Batch w.channel) n.manager) in
     mem_before e (ds ++ e ∷ []) [] (mem_behind e ds (e ∷ []) (inl refl))
 
+settle_leaves : (commit : Bool) (rs : List Remove) → all_leave (map (settle_did commit) rs) ≡ true
+settle_leaves commit [] = refl
+settle_leaves true (r ∷ rs) = settle_leaves true rs
+settle_leaves false (r ∷ rs) = settle_leaves false rs
+
+told_leave : (commit : Bool) (w : Where) (u : Luw) (n : Node) → all_leave (settle_told commit w u n) ≡ true
+told_leave commit w u n =
+    let rs : List Remove = held_rows (holders.Batch w.channel) n.manager in
+    let e : Did = resolved_did commit w.channel u in
+    leave_behind (map (settle_did commit) rs ++ e ∷ []) [] (leave_behind (map (settle_did commit) rs) (e ∷ []) (settle_leaves commit rs) refl) refl
+
+-- THAT BACKS OUT
 backs_out : (z : Scene) (n : Node) (c : Channel) (y : Past) (d : InDoubt) → IsAt z n c y → is_up n.manager.running ≡ true → senders.is_running c.sender.state ≡ false → in_doubt_of (sender_data z.place.channel n.manager) ≡ Some d
     → (1 ≤ d.unit.n → c.receives.unit ≢ d.unit) → Commands z n c y (resolve_deed z.place settles.Backout d n)
 backs_out z n c y d a up off so right =
@@ -100,16 +111,9 @@ backs_out z n c y d a up off so right =
             (λ e. absurd (cc (e, resting_apart c.sender.state off)))
             (λ e. resolves_batch w settles.Backout d n.manager _ ∙ h.unbatched e)
             refl;
-        ends = refl;
-        adds = refl;
-        told = leave_behind (map (settle_did false) (held_rows (holders.Batch w.channel) n.manager) ++ backed_out w.channel d.unit ∷ []) []
-            (leave_behind (map (settle_did false) (held_rows (holders.Batch w.channel) n.manager)) (backed_out w.channel d.unit ∷ []) (settle_leave (held_rows (holders.Batch w.channel) n.manager)) refl) refl;
-        answer = acted.Done;
-        reply = refl;
-        is = refl;
-        pushed = refl;
+        asked = record { ends = refl; adds = refl; told = told_leave false w d.unit n; answer = acted.Done; reply = refl; is = refl; pushed = refl };
         tells = λ ps ds f i. backout_tells z.scenario ps ds z.sender w.channel c y own.data_
-            (subst (λ (u : Luw). Mem (told_of z.sender (backed_out w.channel u)) ds) (sym own.unit) (f (backed_out w.channel d.unit) (tells_it w d n))) i;
+            (subst (λ (u : Luw). Mem (told_of z.sender (resolved_did false w.channel u)) ds) (sym own.unit) (f (resolved_did false w.channel d.unit) (tells_it false w d.unit n))) i;
         commits = none_commits c w.channel (delta_of (resolve_deed w settles.Backout d n).parts);
         forces = none_forced_now (world_in z) z.sender w.channel (delta_of (resolve_deed w settles.Backout d n).parts);
         near = λ v e f. (refl, ap (λ (b : Bool). (not b && true) && true) f);
@@ -127,19 +131,6 @@ resolves_so z n c y (Some d) a up is right = bool_case (senders.is_running c.sen
     (λ e. backs_out z n c y d a up e is (right d refl e))
 
 -- THAT COMMITS
-sent_leave : (rs : List Remove) → all_leave (map (settle_did true) rs) ≡ true
-sent_leave [] = refl
-sent_leave (r ∷ rs) = sent_leave rs
-
-abbrev committed_did : List ℕ → Luw → Did
-committed_did c u = did.Hardened c (notes.Resolved u true true)
-
-commits_it : (w : Where) (d : InDoubt) (n : Node) → Mem (committed_did w.channel d.unit) (delta_of (resolve_deed w settles.Commit d n).parts)
-commits_it w d n =
-    let e : Did = committed_did w.channel d.unit in
-    let ds : List Did = map (settle_did true) (held_rows (holders.Batch w.channel) n.manager) in
-    mem_before e (ds ++ e ∷ []) [] (mem_behind e ds (e ∷ []) (inl refl))
-
 upto_both : (u v : Luw) → Upto u v → Upto v u → u ≡ v
 upto_both u v e f = unit_eq u v (grind (arith, e, f)) (grind (arith, e, f))
 
@@ -160,18 +151,11 @@ commits_by o z n c y d e a up off is same turned past forcing =
             (λ b. absurd (cc (b, resting_apart c.sender.state off)))
             (λ b. resolves_batch w settles.Commit d n.manager _ ∙ h.unbatched b)
             refl;
-        ends = refl;
-        adds = refl;
-        told = leave_behind (map (settle_did true) (held_rows (holders.Batch w.channel) n.manager) ++ committed_did w.channel d.unit ∷ []) []
-            (leave_behind (map (settle_did true) (held_rows (holders.Batch w.channel) n.manager)) (committed_did w.channel d.unit ∷ []) (sent_leave (held_rows (holders.Batch w.channel) n.manager)) refl) refl;
-        answer = acted.Done;
-        reply = refl;
-        is = refl;
-        pushed = refl;
+        asked = record { ends = refl; adds = refl; told = told_leave true w d.unit n; answer = acted.Done; reply = refl; is = refl; pushed = refl };
         tells = λ ps ds f i. commit_tells z.scenario ps ds z.sender w.channel c y e i;
         commits = λ u f.
             let b = past u f in
-            (subst (λ (v : Luw). Mem (committed_did w.channel v) (delta_of (resolve_deed w settles.Commit d n).parts)) (sym b.0) (commits_it w d n), b.1);
+            (subst (λ (v : Luw). Mem (resolved_did true w.channel v) (delta_of (resolve_deed w settles.Commit d n).parts)) (sym b.0) (tells_it true w d.unit n), b.1);
         forces = forcing;
         near = λ v b f. (refl, ap (λ (t : Bool). (not t && true) && true) f);
         others = λ v f. refl;
@@ -196,14 +180,14 @@ commits_deed z n c y d a up off so =
     (λ u g. subst (λ (v : Luw). IsForcing (world_in z) z.sender w.channel v (delta_of (resolve_deed w settles.Commit d n).parts)) (sym (some_unit own.data_.unit u g)) (record {
       holds = (a.joint.tied.held held.2).0 ∙ held.0;
       new = λ b. unit_no c.receives.unit own.data_.unit f (sym a.joint.tied.last ∙ b);
-      told = subst (λ (v : Luw). Mem (committed_did w.channel v) (delta_of (resolve_deed w settles.Commit d n).parts)) (sym own.unit) (commits_it w d n);
+      told = subst (λ (v : Luw). Mem (resolved_did true w.channel v) (delta_of (resolve_deed w settles.Commit d n).parts)) (sym own.unit) (tells_it true w d.unit n);
       rows = λ q r k by_. told_all_rows q r (subst (λ (o : Option Plain). Mem r (rows_of q o)) a.at k) by_;
     })))
   where
     told_all_rows : (q : List ℕ) (r : Row) → Mem r (stored q n.manager).rows → r.by ≡ Some (holders.Batch z.place.channel) → Mem r.message.ident (sent_idents (delta_of (resolve_deed z.place settles.Commit d n).parts))
     told_all_rows q r k by_ =
-        let ds : List Did = map (settle_did true) (held_rows (holders.Batch z.place.channel) n.manager) ++ committed_did z.place.channel d.unit ∷ [] in
-        subst (λ (es : List Did). Mem r.message.ident (sent_idents es)) (sym (append-nil ds)) (batch_told z.place.channel n.manager (committed_did z.place.channel d.unit ∷ []) q r k by_)
+        let ds : List Did = map (settle_did true) (held_rows (holders.Batch z.place.channel) n.manager) ++ resolved_did true z.place.channel d.unit ∷ [] in
+        subst (λ (es : List Did). Mem r.message.ident (sent_idents es)) (sym (append-nil ds)) (batch_told z.place.channel n.manager (resolved_did true z.place.channel d.unit ∷ []) q r k by_)
 
     no_one : (u : Luw) → None ≡ Some u → ⊥
     no_one u e = cc
@@ -265,9 +249,9 @@ backing_out s hs whole p es x h stamp z i k name scenario none split is tells ow
     let same : operate op n ≡ resolve_deed w settles.Backout d n = sym (up_so op n up) ∙ ap (λ (v : Option SenderEnd). resolve_end settles.Backout v n) named ∙ ap (λ (v : Option InDoubt). resolve_doubt end settles.Backout v n) f
     ∙ ap (λ (b : Bool). refused_or (if b then Some reasons.Running else None) n.own (resolve_deed w settles.Backout d n)) off in
     let delta : x.entry.effect.delta ≡ delta_of (resolve_deed w settles.Backout d n).parts = tells.delta ∙ ap (λ (v : Done). v.delta) run.is ∙ ap (λ (g : Deed). delta_of g.parts) same in
-    let it : ToldDeed = told_of k.sender (backed_out k.channel d.unit) in
+    let it : ToldDeed = told_of k.sender (resolved_did false k.channel d.unit) in
     backs_out_rightly s hs whole (deeds (p ++ x ∷ [])) es k.sender k.channel c y d.unit none split now
-    (subst (λ (ds : List ToldDeed). Mem it ds) (sym split) (mem_before it (deeds (p ++ x ∷ [])) es (told_now p x it (told_here k.sender x.manager (delta_of (resolve_deed w settles.Backout d n).parts) x.entry.effect.delta (backed_out k.channel d.unit) q delta (tells_it w d n)))))
+    (subst (λ (ds : List ToldDeed). Mem it ds) (sym split) (mem_before it (deeds (p ++ x ∷ [])) es (told_now p x it (told_here k.sender x.manager (delta_of (resolve_deed w settles.Backout d n).parts) x.entry.effect.delta (resolved_did false k.channel d.unit) q delta (tells_it false w d.unit n)))))
     (real_unit d.unit real) in
     commanded s hs p x z (record { h = h; is = is; stamp = stamp; tells = tells; own = own }) i k (resolve_doubt end settles.Backout o n) op scenario e q call chance run (ap (λ (v : Option SenderEnd). resolve_end settles.Backout v n) (sym named))
     (λ a. resolves_so (scene s hs p z k w) n c y o a up refl right)

@@ -31,7 +31,7 @@ use Rattle.mq_spec_network.specs.Ledger as ledgers
 use Rattle.mq_spec_network.specs.Ledger.{Ledger, ledger, posted}
 use Rattle.mq_spec_network.specs.Standing.{node_after, opening_ledger}
 use Rattle.mq_spec_network.specs.Story.{Line}
-use Rattle.mq_law_story.proofs.Weaving.{ledger_step}
+use Rattle.mq_law_one.proofs.from_law_story.Weaving.{ledger_step}
 use Rattle.mq_law_one.proofs.Running.{Told_}
 use Rattle.mq_law_run.specs.Run.{HaveSenders, Moves, Stand, failed_node}
 use Rattle.mq_law_run.proofs.Failing.{failing_moves}

@@ -24,11 +24,12 @@ use Rattle.mq_law_node.specs.Nodes.{FarAt, FarNode, NearAt, NearNode}
 use Rattle.mq_law_rows.specs.Families.{is_here, put_at}
 use Rattle.mq_law_rows.specs.World.{World}
 use Rattle.mq_law_rows.proofs.Lists.{bool_case, here_yes}
-use Rattle.mq_law_seen.specs.Seen.{book_of}
+use Rattle.mq_law_seen.specs.Seen.{book_of, world_of}
 use Rattle.mq_law_events.specs.Tied.{IsNext}
-use Rattle.mq_law_turns.specs.Agreed.{IsToldOf}
-use Rattle.mq_law_turns.specs.Turns.{Scene, TurnedBy}
-use Rattle.mq_law_turns.proofs.Agreeing.{grows}
+use Rattle.mq_law_stopped.specs.from_law_turns.Agreed.{IsToldOf}
+use Rattle.mq_law_stopped.specs.from_law_turns.Turns.{IsAt as IsSending, IsAtFar as IsReceiving, IsJoint, Scene, TurnedBy}
+use Rattle.mq_law_stopped.proofs.from_law_turns.Agreeing.{grows}
+use Rattle.mq_law_cables.proofs.Keeping.{joint_of}
 use Rattle.mq_law_deeds.specs.Numbers.{AreCountedAt}
 use Rattle.mq_law_stopped.specs.Noted.{EndNote}
 use Rattle.mq_law_one.specs.Alone.{IsAt, IsState}
@@ -36,7 +37,7 @@ use Rattle.mq_law_one.proofs.Happening.{noted_up, state_up}
 use Rattle.mq_law_one.proofs.Running.{Told_}
 use Rattle.mq_law_run.specs.Run.{Moves, MovesTo, Stand, far_at, near_at}
 use Rattle.mq_law_run.proofs.Beside.{IsBeside, beside_fresh, beside_timed, beside_told}
-use Rattle.mq_law_run.proofs.Lining.{here}
+use Rattle.mq_law_run.proofs.Lining.{here, mem_at}
 use Rattle.mq_law_run.proofs.Owning.{next_managers}
 
 -- a network and one of its cables
@@ -74,6 +75,22 @@ sends_here s hs p x z t i k e q up = subst (NearAt (near_at s i k) (node_after s
 pub takes_here : (s : Scenario) (hs : List History) (p : List Line) (x : Line) (z : Stand s hs p) (t : Told_ s hs p x) (i : ℕ) (k : CableLine) → slice_get s.cables i ≡ Some k → k.receiver ≡ x.manager → (node_after s x.manager p t.h).manager.running ≡ Up
     → TakesAs (far_at s i k) (node_after s x.manager p t.h) (z.xs k.sender k.channel)
 takes_here s hs p x z t i k e q up = subst (FarAt (far_at s i k) (node_after s x.manager p t.h) (z.xs k.sender k.channel)) up (far_here s hs p x z t i k e q)
+
+-- what the network's facts say of a cable's two managers
+pub joint_here : (s : Scenario) (hs : List History) (p : List Line) (z : Stand s hs p) (k : CableLine) → Mem k s.cables
+    → IsJoint (world_of s z.given (managers_at s p hs)) z.ghost (book_of (ledger (opening_ledger s hs) p)) k.sender k.receiver k.channel (z.xs k.sender k.channel) (z.ys k.sender k.channel)
+joint_here s hs p z k there = joint_of (world_of s z.given (managers_at s p hs)) z.ghost (book_of (ledger (opening_ledger s hs) p)) s.cables z.xs z.ys k there z.joint
+
+-- the ends of a cable, each at the entry's manager, whose deed ran
+pub sender_at : (s : Scenario) (hs : List History) (p : List Line) (x : Line) (z : Stand s hs p) (t : Told_ s hs p x) (i : ℕ) (k : CableLine) (d : Deed) → slice_get s.cables i ≡ Some k → k.sender ≡ x.manager → IsRun s hs p x t d
+    → IsSending (scene s hs p z k (near_at s i k)) (node_after s x.manager p t.h) (z.xs k.sender k.channel) (z.ys k.sender k.channel)
+sender_at s hs p x z t i k d e q r =
+    record { at = (run_next s hs p x t d k.sender r q).at; sends = sends_here s hs p x z t i k e q r.up; facts = (z.lines i k e).facts; joint = joint_here s hs p z k (mem_at s.cables i k e) }
+
+pub receiver_at : (s : Scenario) (hs : List History) (p : List Line) (x : Line) (z : Stand s hs p) (t : Told_ s hs p x) (i : ℕ) (k : CableLine) (d : Deed) → slice_get s.cables i ≡ Some k → k.receiver ≡ x.manager → IsRun s hs p x t d
+    → IsReceiving (scene s hs p z k (far_at s i k)) (node_after s x.manager p t.h) (z.xs k.sender k.channel) (z.ys k.sender k.channel) (ledger (opening_ledger s hs) p)
+receiver_at s hs p x z t i k d e q r =
+    record { at = (run_next s hs p x t d k.receiver r q).at; takes_ = takes_here s hs p x z t i k e q r.up; facts = (z.lines i k e).facts; joint = joint_here s hs p z k (mem_at s.cables i k e); book = refl }
 
 -- what is beside rows and channels stays: so does what is told of the manager, and where it stands
 pub beside_at : {E : ledgers.Stopped → Noted → Plain → Type 0} (s : Scenario) (hs : List History) (p : List Line) (x : Line) (z : Stand s hs p) (t : Told_ s hs p x) (d : Deed) (l : Ledger) → IsRun s hs p x t d → l ≡ ledger (opening_ledger s hs) p

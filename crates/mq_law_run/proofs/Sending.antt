@@ -68,20 +68,20 @@ use Rattle.mq_law_node.proofs.SenderTurns.{guarded}
 use Rattle.mq_law_rows.specs.Families.{put_at}
 use Rattle.mq_law_rows.proofs.Lists.{eqb_self, here_self, true_false}
 use Rattle.mq_law_seen.specs.Seen.{book_of, world_of}
-use Rattle.mq_law_story.proofs.Weaving.{ledger_step}
-use Rattle.mq_law_turns.specs.Agreed.{IsToldOf}
-use Rattle.mq_law_turns.specs.Turns.{EachForOthers, EachPosted, EachSound, EachTurned, IsAlone, Scene, TurnedBy, is_expiry}
-use Rattle.mq_law_keys.proofs.Telling.{end_mem}
-use Rattle.mq_law_unshared.proofs.Alone.{seized_alone}
+use Rattle.mq_law_one.proofs.from_law_story.Weaving.{ledger_step}
+use Rattle.mq_law_stopped.specs.from_law_turns.Agreed.{IsToldOf}
+use Rattle.mq_law_stopped.specs.from_law_turns.Turns.{EachForOthers, EachPosted, EachSound, EachTurned, IsAlone, Scene, TurnedBy, is_expiry}
+use Rattle.mq_law_deeds.proofs.from_law_keys.Telling.{end_mem}
+use Rattle.mq_law_deeds.proofs.from_law_unshared.Alone.{seized_alone}
 use Rattle.mq_spec_node.specs.Node.ChannelEnd.{Sends}
-use Rattle.mq_law_turns.proofs.Agreeing.{grows, sender_tells}
-use Rattle.mq_law_turns.proofs.Posting.{EachPassed, posts, receives_nothing, sender_passes}
-use Rattle.mq_law_turns.proofs.Reading.{senders_others, stays}
-use Rattle.mq_law_turns.proofs.Sending as sending
-use Rattle.mq_law_turns.proofs.Sounds.{senders_sound}
+use Rattle.mq_law_stopped.proofs.from_law_turns.Agreeing.{grows, sender_tells}
+use Rattle.mq_law_stopped.proofs.from_law_turns.Posting.{EachPassed, posts, receives_nothing, sender_passes}
+use Rattle.mq_law_stopped.proofs.from_law_turns.Reading.{senders_others, stays}
+use Rattle.mq_law_stopped.proofs.from_law_turns.Sending as sending
+use Rattle.mq_law_stopped.proofs.from_law_turns.Sounds.{senders_sound}
 use Rattle.mq_law_cables.specs.Joints.{AreCabled}
 use Rattle.mq_law_cables.proofs.Differing.{leads}
-use Rattle.mq_law_cables.proofs.Keeping.{joint_of, turned_joint}
+use Rattle.mq_law_cables.proofs.Keeping.{turned_joint}
 use Rattle.mq_law_deeds.proofs.Resting.{apart_batch}
 use Rattle.mq_law_deeds.proofs.Sounding.{behind}
 use Rattle.mq_law_one.proofs.Running.{Told_}
@@ -93,7 +93,7 @@ use Rattle.mq_law_run.proofs.Cabled.{add_cabled, parts_cabled, same_batches}
 use Rattle.mq_law_run.proofs.Later.{near_later}
 use Rattle.mq_law_run.proofs.Listing.{forcing_told, quiet_order}
 use Rattle.mq_law_run.proofs.Lining.{all_moved, else_channel, else_index, here, left_aside, mem_at, same_cable, units_put}
-use Rattle.mq_law_run.proofs.Running.{IsRun, beside_at, beside_counted, move_to, operated_before, run_next, scene, sends_here, sent_kept, sound_at, takes_here, told_all}
+use Rattle.mq_law_run.proofs.Running.{IsRun, beside_at, beside_counted, joint_here, move_to, operated_before, run_next, scene, sends_here, sent_kept, sound_at, takes_here, told_all}
 use Rattle.mq_law_run.proofs.Telling.{deeds_more, none_committed, risen_still, still_not, told_before}
 use Rattle.mq_law_rows.specs.World.{World}
 
@@ -328,7 +328,7 @@ sender_moves s hs p x z t i k d scenario e q actor call r is offered plain =
       run = r;
       may = may_turn w stamp seen n.manager c offered;
       turned = (subst (λ (o : Option Deed). EachTurned zz n.manager o (sender_turn turn c) (sender_past turn c y)) is
-          (sending.turns zz n c y stamp seen next.at sends facts (joint_of (world_of s z.given (managers_at s p hs)) z.ghost (book_of l) s.cables z.xs z.ys k there z.joint) alone offered plain)) (managers_at s (p ++ x ∷ []) hs) next;
+          (sending.turns zz n c y stamp seen next.at sends facts (joint_here s hs p z k there) alone offered plain)) (managers_at s (p ++ x ∷ []) hs) next;
       sent = subst (λ (o : Option Deed). EachSent w n o c.out (sender_turn turn c)) is
           (turns_as w stamp seen n c sends (ap is_up r.up) (distinct_of (stored (queue_of_sender w.channel n.manager) n.manager).rows (r.before.facts.apart.once (queue_of_sender w.channel n.manager))));
       beside = parts_beside d.parts n.manager ends.0.0;

@@ -15,7 +15,6 @@ use Rattle.mq_sc_parse.specs.declared.command.Command.TheVariants as lines
 use Rattle.mq_sc_parse.specs.declared.command.Op.{Op}
 use Rattle.mq_sc_parse.specs.declared.command.Op.TheVariants as ops
 use Rattle.mq_history.specs.declared.acts.Act.TheVariants as acts
-use Rattle.mq_history.specs.declared.acts.Acted.{Acted}
 use Rattle.mq_history.specs.declared.acts.Acted.TheVariants as acted
 use Rattle.mq_history.specs.declared.acts.OpRefusal.{OpRefusal}
 use Rattle.mq_history.specs.declared.acts.OpRefusal.TheVariants as reasons
@@ -41,7 +40,6 @@ use Rattle.mq_spec_network.specs.Standing.{managers_at, node_after, opening_ledg
 use Rattle.mq_spec_network.specs.Story.{Line, Mem}
 use Rattle.mq_law_channel.specs.Channel.{Channel, Facts, Past}
 use Rattle.mq_law_channel.specs.Turns as channels
-use Rattle.mq_law_manager.specs.Facts.{IsSound}
 use Rattle.mq_law_manager.proofs.Untouched.{parts_running}
 use Rattle.mq_law_node.specs.Data.{receives_at}
 use Rattle.mq_law_node.specs.Ends.{TakesAs, Taken as Took, Where, receiver_of, told_receives}
@@ -62,26 +60,24 @@ use Rattle.mq_law_rows.specs.Families.{put_at}
 use Rattle.mq_law_rows.proofs.Lists.{eqb_self, true_false}
 use Rattle.mq_law_seen.specs.Seen.{book_of, world_of}
 use Rattle.mq_law_events.specs.Tied.{IsNext}
-use Rattle.mq_law_story.proofs.Weaving.{ledger_step}
-use Rattle.mq_law_turns.specs.Agreed.{IsToldOf}
-use Rattle.mq_law_turns.specs.Turns.{IsAtFar, Scene, Taken, parts_for_others}
-use Rattle.mq_law_turns.proofs.Agreeing.{grows}
-use Rattle.mq_law_turns.proofs.FarOperating.{closed_unit, resets, starts, stops}
-use Rattle.mq_law_turns.proofs.OperatorSounds.{operates}
-use Rattle.mq_law_turns.proofs.Reading.{stays}
-use Rattle.mq_law_turns.proofs.Taking.{quiet}
+use Rattle.mq_law_one.proofs.from_law_story.Weaving.{ledger_step}
+use Rattle.mq_law_stopped.specs.from_law_turns.Agreed.{IsToldOf}
+use Rattle.mq_law_stopped.specs.from_law_turns.Turns.{IsAtFar, Scene, Taken, parts_for_others}
+use Rattle.mq_law_stopped.proofs.from_law_turns.Agreeing.{grows}
+use Rattle.mq_law_stopped.proofs.from_law_turns.FarOperating.{closed_unit, resets, starts, stops}
+use Rattle.mq_law_stopped.proofs.from_law_turns.Reading.{stays}
+use Rattle.mq_law_stopped.proofs.from_law_turns.Taking.{quiet}
 use Rattle.mq_law_cables.proofs.Differing.{leads}
-use Rattle.mq_law_cables.proofs.Keeping.{joint_of, taken_joint}
+use Rattle.mq_law_cables.proofs.Keeping.{taken_joint}
 use Rattle.mq_law_deeds.proofs.Resting.{apart_batch}
-use Rattle.mq_law_deeds.proofs.Sounding.{behind}
 use Rattle.mq_law_one.proofs.Running.{Told_}
 use Rattle.mq_law_run.specs.Run.{IsMoved, IsRunning, Moves, Stand, far_at, near_at}
 use Rattle.mq_law_run.proofs.Beside.{parts_add_none, parts_beside, parts_of_end}
 use Rattle.mq_law_run.proofs.Cabled.{parts_cabled}
-use Rattle.mq_law_run.proofs.Commanding.{all_leave, is_of_operator, none_received, operated_post, up_so}
+use Rattle.mq_law_run.proofs.Commanding.{IsAsked, all_leave, none_received, operated_post, operator_run, up_so}
 use Rattle.mq_law_run.proofs.Lining.{all_moved, else_index, left_aside, mem_at, units_put}
 use Rattle.mq_law_run.proofs.Receiving.{channel_else, operated_old}
-use Rattle.mq_law_run.proofs.Running.{IsRun, beside_at, beside_counted, move_to, run_next, scene, sends_here, sound_at, takes_here, told_all}
+use Rattle.mq_law_run.proofs.Running.{IsRun, beside_at, beside_counted, move_to, receiver_at, run_next, scene, sends_here, takes_here, told_all}
 use Rattle.mq_law_run.proofs.Telling.{deeds_more, none_committed, risen_still, still_not, told_before}
 use Rattle.mq_law_run.specs.Ordered.{forced_over}
 use Rattle.mq_law_run.proofs.Listing.{forced_still, quiet_order}
@@ -92,13 +88,7 @@ record IsServed (z : Scene) (n : Node) (c : Channel) (y : Past) (l : Ledger) (d 
   taken : (rs : List Plain) → IsNext z.receiver n.manager (do_all d.parts n.manager) z.managers rs → Taken z (world_of z.scenario z.given rs) (book_of l) (far_does step c) y
   took : Took z.place n d c.back (far_does step c)
   unit : (far_does step c).receives.unit ≡ c.receives.unit
-  ends : parts_of_end d.parts ≡ true
-  adds : parts_add_none d.parts ≡ true
-  told : all_leave (delta_of d.parts) ≡ true
-  answer : Acted
-  reply : d.reply ≡ replies.Acted answer
-  is : is_of_operator answer ≡ true
-  pushed : d.pushed ≡ None
+  asked : IsAsked d
   near : (v : Where) → (z.place.cable == v.cable) ≡ false → EachApart v n (Some d)
   others : (v : Where) → parts_for_others v.channel d.parts ≡ true
   far : (v : Where) → (z.place.cable == v.cable) ≡ false → bytes_eq v.channel z.place.channel ≡ false → EachFarApart v n (Some d)
@@ -114,13 +104,7 @@ refuses z n c y l reason a up = (
     taken = λ rs h. quiet z n c c y l rs a refl h;
     took = arrives z.place n (refused reason n.own) c c.receives c.receiver c.kept c.back up a.takes_.here a.takes_.data_ refl;
     unit = refl;
-    ends = refl;
-    adds = refl;
-    told = refl;
-    answer = acted.Op reason;
-    reply = refl;
-    is = refl;
-    pushed = refl;
+    asked = record { ends = refl; adds = refl; told = refl; answer = acted.Op reason; reply = refl; is = refl; pushed = refl };
     near = λ v e. (refl, refl);
     others = λ v. refl;
     far = λ v e f. (refl, refl);
@@ -139,13 +123,7 @@ started z n c y l a up off =
         taken = λ rs g. starts z n c y l rs a g;
         took = arrives w n _ c c.receives (receivers.started c.receiver) c.kept c.back up (end_taken w n _ c.receiver c.kept c.kept h.here) h.data_ refl;
         unit = refl;
-        ends = refl;
-        adds = refl;
-        told = refl;
-        answer = acted.Done;
-        reply = refl;
-        is = refl;
-        pushed = refl;
+        asked = record { ends = refl; adds = refl; told = refl; answer = acted.Done; reply = refl; is = refl; pushed = refl };
         near = λ v e. (set_receiving v (receiver_of w (receivers.started c.receiver) c.kept) n e, refl);
         others = λ v. refl;
         far = λ v e f. (set_taking v (receiver_of w (receivers.started c.receiver) c.kept) n e, refl);
@@ -195,13 +173,7 @@ stops_so z n c y l a up =
             ∙ closed_at w c.receiver c.kept n.manager (is_open (receiver_data w.channel n.manager)))
             refl;
         unit = closed_unit (channels.is_open c.receives) c.receives;
-        ends = parts.0;
-        adds = parts.1;
-        told = parts.2;
-        answer = acted.Done;
-        reply = refl;
-        is = refl;
-        pushed = refl;
+        asked = record { ends = parts.0; adds = parts.1; told = parts.2; answer = acted.Done; reply = refl; is = refl; pushed = refl };
         near = λ v e. (set_receiving v (receiver_of w (receivers.stopped c.receiver) []) n e, close_apart v (receiver_of w c.receiver c.kept) n);
         others = λ v. close_others v.channel (receiver_of w c.receiver c.kept) n.manager;
         far = λ v e f. (set_taking v (receiver_of w (receivers.stopped c.receiver) []) n e, close_far v.channel (receiver_of w c.receiver c.kept) n.manager f);
@@ -225,13 +197,7 @@ numbered z n c y l seqnum a up =
             (ap (λ (d : ReceiverData). record d { last = seqnum - 1 }) h.data_ ∙ found_receiver w.channel (record (receives_at w.channel n.manager) { last = seqnum - 1 }) (receiver_data w.channel n.manager))
             refl;
         unit = refl;
-        ends = refl;
-        adds = refl;
-        told = refl;
-        answer = acted.Done;
-        reply = refl;
-        is = refl;
-        pushed = refl;
+        asked = record { ends = refl; adds = refl; told = refl; answer = acted.Done; reply = refl; is = refl; pushed = refl };
         near = λ v e. (set_receiving v (receiver_of w (receivers.numbered (seqnum - 1) c.receiver) c.kept) n e, refl);
         others = λ v. refl;
         far = λ v e f. (set_taking v (receiver_of w (receivers.numbered (seqnum - 1) c.receiver) c.kept) n e, ap (λ (b : Bool). (not b && true) && true) f);
@@ -265,10 +231,10 @@ served_moves s hs p x z t i k d op step scenario e q call chance r v =
     let there : Mem k s.cables = mem_at s.cables i k e in
     let zz : Scene = scene s hs p z k w in
     let ms : List Plain = managers_at s (p ++ x ∷ []) hs in
-    let reply : x.entry.reply ≡ replies.Acted v.answer = t.tells.reply ∙ ap (λ (o : Done). o.reply) r.is ∙ v.reply in
+    let reply : x.entry.reply ≡ replies.Acted v.asked.answer = t.tells.reply ∙ ap (λ (o : Done). o.reply) r.is ∙ v.asked.reply in
     let delta : x.entry.effect.delta ≡ delta_of d.parts = t.tells.delta ∙ ap (λ (o : Done). o.delta) r.is in
-    let pushed : x.entry.effect.pushed ≡ None = t.tells.pushed ∙ ap (λ (o : Done). o.pushed) r.is ∙ v.pushed in
-    let silent : all_leave x.entry.effect.delta ≡ true = ap all_leave delta ∙ v.told in
+    let pushed : x.entry.effect.pushed ≡ None = t.tells.pushed ∙ ap (λ (o : Done). o.pushed) r.is ∙ v.asked.pushed in
+    let silent : all_leave x.entry.effect.delta ≡ true = ap all_leave delta ∙ v.asked.told in
     let took : Taken zz (world_of s z.given ms) (book_of l) c1 y = v.taken ms (run_next s hs p x t d k.receiver r q) in
     let mine : IsMoved s m (done d Runs n).next i k c c1 y = record {
       facts = far_keeps step c y facts v.may;
@@ -281,7 +247,7 @@ served_moves s hs p x z t i k d op step scenario e q call chance r v =
       later = λ a. absurd ((z.joint.tied k there).apart (q ∙ sym a));
       else = λ a b. absurd (true_false (sym (ap (λ o. o == m) q ∙ eqb_self m) ∙ b));
     } in
-    move_to s hs p x t.h z (done d Runs n) l r.is (ledger_step (opening_ledger s hs) p x ∙ operated_post m x.entry op v.answer l call chance reply v.is silent) (record {
+    move_to s hs p x t.h z (done d Runs n) l r.is (ledger_step (opening_ledger s hs) p x ∙ operated_post m x.entry op v.asked.answer l call chance reply v.asked.is silent) (record {
       given = z.given;
       ghost = took.ghost;
       xs = put_at z.xs k.sender k.channel c1;
@@ -306,12 +272,12 @@ served_moves s hs p x z t i k d op step scenario e q call chance r v =
       risen = λ h w. risen_still s (opening_managers s hs) p x h.channel (z.xs h.sender h.channel).receives.unit (put_at z.xs k.sender k.channel c1 h.sender h.channel).receives.unit (none_received x.entry.effect.delta silent) (units_put z.xs k h c1 v.unit) (z.risen h w);
       owned = λ a b u f. z.owned a b u (operated_old zz (world_of s z.given ms) (book_of l) c1 y took a b u f);
       loose = λ a b u f. (λ v. sym took.loose v a b u) ∙ f;
-      at = beside_at s hs p x z t d l r refl (parts_beside d.parts n.manager v.ends);
+      at = beside_at s hs p x z t d l r refl (parts_beside d.parts n.manager v.asked.ends);
       known = λ i_ f. refl;
       others = λ a b f h. h;
       users = λ a f. refl;
-      counted = beside_counted s hs p x z t d l refl (parts_beside d.parts n.manager v.ends);
-      cabled = parts_cabled s.cables m d.parts n.manager v.adds (z.cabled m t.h t.is);
+      counted = beside_counted s hs p x z t d l refl (parts_beside d.parts n.manager v.asked.ends);
+      cabled = parts_cabled s.cables m d.parts n.manager v.asked.adds (z.cabled m t.h t.is);
       housed = λ a b f. (b, f);
       listed = forced_still z.ghost took.ghost x.entry.effect.delta (book_of l).rows (book_of l).rows (λ a b u f. (operated_old zz (world_of s z.given ms) (book_of l) c1 y took a b u f, λ j. took.sent j a b u)) (λ i_ g. g);
       order = quiet_order (forced_over [] p) x l l (none_received x.entry.effect.delta silent);
@@ -331,16 +297,8 @@ served : (s : Scenario) (hs : List History) (p : List Line) (x : Line) (z : Stan
     → Moves s hs p x t.h z
 served s hs p x z t i k d op scenario e q call chance run is so =
     let n : Node = node_after s x.manager p t.h in
-    let c : Channel = z.xs k.sender k.channel in
-    let y : Past = z.ys k.sender k.channel in
-    let zz : Scene = scene s hs p z k (far_at s i k) in
-    let l : Ledger = ledger (opening_ledger s hs) p in
-    let there : Mem k s.cables = mem_at s.cables i k e in
-    let sound : IsSound n.manager = sound_at s hs p x z t run.up in
-    let r : IsRun s hs p x t (operate op n) = record { up = run.up; is = run.is; can = run.can; before = sound; after = behind (operate op n).parts n.manager sound (operates op n sound) } in
-    let next = run_next s hs p x t (operate op n) k.receiver r q in
-    let at : IsAtFar zz n c y l = record { at = next.at; takes_ = takes_here s hs p x z t i k e q run.up; facts = (z.lines i k e).facts; joint = joint_of (world_of s z.given (managers_at s p hs)) z.ghost (book_of l) s.cables z.xs z.ys k there z.joint; book = refl } in
-    let b = subst (λ (g : Deed). Serves zz n c y l g) (is ∙ up_so op n (ap is_up run.up)) (so at) in
+    let r : IsRun s hs p x t (operate op n) = operator_run s hs p x z t op run in
+    let b = subst (λ (g : Deed). Serves (scene s hs p z k (far_at s i k)) n (z.xs k.sender k.channel) (z.ys k.sender k.channel) (ledger (opening_ledger s hs) p) g) (is ∙ up_so op n (ap is_up run.up)) (so (receiver_at s hs p x z t i k (operate op n) e q r)) in
     served_moves s hs p x z t i k (operate op n) op b.0 scenario e q call chance r b.1
 
 pub starting : (s : Scenario) (hs : List History) (p : List Line) (x : Line) (h : History) (stamp : ℕ) (z : Stand s hs p) (i : ℕ) (k : CableLine) (name : List ℕ) → IsScenario s → slice_get hs x.manager ≡ Some h → Tells (node_after s x.manager p h) stamp x.entry

@@ -15,16 +15,16 @@ use Rattle.mq_spec_network.specs.Ledger.{Ledger, ledger, users_or}
 use Rattle.mq_spec_network.specs.Standing.{node_after, opening_ledger, opening_managers}
 use Rattle.mq_spec_network.specs.Conflict.{deeds}
 use Rattle.mq_spec_network.specs.Story.{Line, Mem, part}
-use Rattle.mq_law_keys.proofs.Starting.{run_keyed}
-use Rattle.mq_law_unshared.specs.Unshared.{WhereUp}
-use Rattle.mq_law_unshared.proofs.Events.{events}
+use Rattle.mq_law_deeds.proofs.from_law_keys.Starting.{run_keyed}
+use Rattle.mq_law_deeds.specs.from_law_unshared.Unshared.{WhereUp}
+use Rattle.mq_law_deeds.proofs.from_law_unshared.Events.{events}
 use Rattle.mq_law_channel.specs.Channel.{Channel}
 use Rattle.mq_law_node.specs.Nodes.{FarNode, NearNode}
 use Rattle.mq_law_node.proofs.Pairs.{far_stays, near_stays}
 use Rattle.mq_law_rows.proofs.Lists.{bool_case, eqb_yes}
 use Rattle.mq_law_events.specs.Tied.{IsTold}
 use Rattle.mq_law_seen.specs.Seen.{book_of}
-use Rattle.mq_law_story.proofs.Weaving.{node_step}
+use Rattle.mq_law_one.proofs.from_law_story.Weaving.{node_step}
 use Rattle.mq_law_deeds.specs.Numbers.{AreCountedAt}
 use Rattle.mq_law_cables.specs.Joints.{AreCabled}
 use Rattle.mq_calls.specs.State.{Noted, Plain, Running}

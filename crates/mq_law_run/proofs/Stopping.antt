@@ -50,12 +50,12 @@ use Rattle.mq_law_node.proofs.Freezing.{end_resting, rest_data}
 use Rattle.mq_law_seen.specs.Seen.{book_of}
 use Rattle.mq_law_events.specs.Tied.{IsElse, IsNext}
 use Rattle.mq_law_events.proofs.Telling.{else_places, else_then, else_users, here_changed}
-use Rattle.mq_law_batches.specs.Releases.{AreUnprepared, Rested}
-use Rattle.mq_law_batches.proofs.Stopping as batches
-use Rattle.mq_law_batches.proofs.Stopping.{IsRest, rest_stays}
-use Rattle.mq_law_story.proofs.Weaving.{ledger_step}
-use Rattle.mq_law_turns.specs.Agreed.{IsToldOf}
-use Rattle.mq_law_turns.proofs.Agreeing.{grows, released_tells}
+use Rattle.mq_law_stopped.specs.from_law_batches.Releases.{AreUnprepared, Rested}
+use Rattle.mq_law_stopped.proofs.from_law_batches.Stopping as batches
+use Rattle.mq_law_stopped.proofs.from_law_batches.Stopping.{IsRest, rest_stays}
+use Rattle.mq_law_one.proofs.from_law_story.Weaving.{ledger_step}
+use Rattle.mq_law_stopped.specs.from_law_turns.Agreed.{IsToldOf}
+use Rattle.mq_law_stopped.proofs.from_law_turns.Agreeing.{grows, released_tells}
 use Rattle.mq_law_cables.specs.Joints.{LeadTo, rested}
 use Rattle.mq_law_cables.proofs.Differing.{leads}
 use Rattle.mq_law_cables.proofs.Keeping.{rests}

@@ -26,7 +26,7 @@ use Rattle.mq_spec_network.specs.Ledger as ledgers
 use Rattle.mq_spec_network.specs.Ledger.{Ledger, ledger, posted}
 use Rattle.mq_spec_network.specs.Order.{unit_received}
 use Rattle.mq_spec_network.specs.Standing.{managers_at, node_after, opening_ledger}
-use Rattle.mq_spec_network.specs.Story.{Line, Mem}
+use Rattle.mq_spec_network.specs.Story.{Line}
 use Rattle.mq_law_channel.specs.Channel.{Channel, Past}
 use Rattle.mq_law_channel.specs.Turns.{sender_timed_out}
 use Rattle.mq_law_manager.specs.Facts.{IsSound}
@@ -38,21 +38,20 @@ use Rattle.mq_law_node.proofs.FarAside.{EachFarApart, far_asides, timeouts_far}
 use Rattle.mq_law_node.proofs.Named.{bool_case}
 use Rattle.mq_law_node.proofs.Operators.{awaiting_apart, tried_apart}
 use Rattle.mq_law_node.proofs.SenderTurns.{ends_set, leaves, leaving_batch, leaving_data}
-use Rattle.mq_law_seen.specs.Seen.{book_of, world_of}
+use Rattle.mq_law_seen.specs.Seen.{world_of}
 use Rattle.mq_law_events.specs.Tied.{IsNext}
-use Rattle.mq_law_story.proofs.Weaving.{ledger_step}
-use Rattle.mq_law_turns.specs.Turns.{EachForOthers, EachSound, IsAt, Scene, Turned}
-use Rattle.mq_law_turns.proofs.Operating.{times_out}
-use Rattle.mq_law_turns.proofs.Reading.{leaving_others, stays}
-use Rattle.mq_law_cables.proofs.Keeping.{joint_of}
+use Rattle.mq_law_one.proofs.from_law_story.Weaving.{ledger_step}
+use Rattle.mq_law_stopped.specs.from_law_turns.Turns.{EachForOthers, EachSound, IsAt, Scene, Turned}
+use Rattle.mq_law_stopped.proofs.from_law_turns.Operating.{times_out}
+use Rattle.mq_law_stopped.proofs.from_law_turns.Reading.{leaving_others, stays}
 use Rattle.mq_law_deeds.proofs.Resting.{apart_batch}
 use Rattle.mq_law_deeds.proofs.Sounding.{behind, timeouts_kept}
 use Rattle.mq_law_one.proofs.Running.{Told_}
 use Rattle.mq_law_run.specs.Run.{Moves, Stand, far_at, near_at}
 use Rattle.mq_law_run.proofs.Beside.{EachAddsNone, EachOfEnd, parts_beside, timeouts_add, timeouts_of_end}
 use Rattle.mq_law_run.proofs.Cabled.{parts_cabled}
-use Rattle.mq_law_run.proofs.Lining.{else_index, mem_at}
-use Rattle.mq_law_run.proofs.Running.{IsRun, run_next, scene, sends_here, sound_at}
+use Rattle.mq_law_run.proofs.Lining.{else_index}
+use Rattle.mq_law_run.proofs.Running.{IsRun, run_next, scene, sender_at, sends_here, sound_at}
 use Rattle.mq_law_run.proofs.Sending.{none_committed_now, none_forced_now, step_moves}
 
 abbrev EachOut : Scene → Plain → Option Deed → Channel → Past → Type 0
@@ -110,10 +109,9 @@ timeout_moves s hs p x z t i k d scenario e q call r is =
     let c : Channel = z.xs k.sender k.channel in
     let y : Past = z.ys k.sender k.channel in
     let sends : SendsAs w n c = sends_here s hs p x z t i k e q r.up in
-    let there : Mem k s.cables = mem_at s.cables i k e in
     let zz : Scene = scene s hs p z k w in
     let next = run_next s hs p x t d k.sender r q in
-    let at : IsAt zz n c y = record { at = next.at; sends = sends; facts = (z.lines i k e).facts; joint = joint_of (world_of s z.given (managers_at s p hs)) z.ghost (book_of l) s.cables z.xs z.ys k there z.joint } in
+    let at : IsAt zz n c y = sender_at s hs p x z t i k d e q r in
     let ends : EachOfEnd (Some d) = subst EachOfEnd is (timeouts_of_end (sender_of w c.sender) n) in
     let silent : EachSilent (Some d) = subst EachSilent is (silent_so (sender_of w c.sender) n) in
     let reply : x.entry.reply ≡ replies.Changed = t.tells.reply ∙ ap (λ (o : Done). o.reply) r.is ∙ ends.1 in

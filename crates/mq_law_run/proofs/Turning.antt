@@ -19,7 +19,7 @@ use Rattle.mq_spec_network.specs.Story.{Line}
 use Rattle.mq_law_channel.specs.Turns.{SeenIn}
 use Rattle.mq_law_node.specs.Ends.{receiver_of, sender_of}
 use Rattle.mq_law_rows.proofs.Lists.{bool_case}
-use Rattle.mq_law_turns.specs.Turns.{is_expiry}
+use Rattle.mq_law_stopped.specs.from_law_turns.Turns.{is_expiry}
 use Rattle.mq_law_one.proofs.Running.{Told_}
 use Rattle.mq_law_run.specs.Run.{IsRunning, Moves, Stand, far_at, near_at}
 use Rattle.mq_law_run.proofs.Expiring.{expiry_moves}

@@ -20,8 +20,8 @@ use Rattle.mq_law_seen.specs.Seen.{book_of, world_of}
 use Rattle.mq_law_events.specs.Local.{Leads, sheet_of, side_of, with_owner}
 use Rattle.mq_law_events.specs.Tied.{IsElse, IsNext, IsSame, IsTold}
 use Rattle.mq_law_events.proofs.Stepping.{moves_on}
-use Rattle.mq_law_batches.proofs.Releasing.{IsNear, lasts}
-use Rattle.mq_law_turns.proofs.Keeping.{doubt_same, holds_same, tied_on}
+use Rattle.mq_law_stopped.proofs.from_law_batches.Releasing.{IsNear, lasts}
+use Rattle.mq_law_stopped.proofs.from_law_turns.Keeping.{doubt_same, holds_same, tied_on}
 use Rattle.mq_law_cables.specs.Joints.{AreJoint, Joined}
 use Rattle.mq_law_seen.proofs.Bridges.{loses_rows}
 use Rattle.mq_law_run.specs.Ordered.{AreForced, HasRow}

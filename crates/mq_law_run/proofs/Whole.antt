@@ -20,9 +20,9 @@ use Rattle.mq_spec_network.specs.Standing.{managers_at, node_after, opening_ledg
 use Rattle.mq_spec_network.specs.Story.{IsStory, Line}
 use Rattle.mq_law_manager.specs.Facts.{AreNamed}
 use Rattle.mq_law_seen.specs.Seen.{book_of}
-use Rattle.mq_law_story.specs.Told.{IsTold as IsOperated}
-use Rattle.mq_law_story.proofs.Promising.{once_promised, rows_promised}
-use Rattle.mq_law_story.proofs.Weaving.{ledger_step, manager_at}
+use Rattle.mq_law_one.specs.from_law_story.Told.{IsTold as IsOperated}
+use Rattle.mq_law_one.proofs.from_law_story.Promising.{once_promised, rows_promised}
+use Rattle.mq_law_one.proofs.from_law_story.Weaving.{ledger_step, manager_at}
 use Rattle.mq_law_one.specs.Alone.{IsOwnCall, IsState}
 use Rattle.mq_law_one.proofs.Running.{Told_, none_more, one_more, told_of}
 use Rattle.mq_law_run.specs.Ordered.{forced_over}

@@ -40,8 +40,8 @@ use Rattle.mq_law_node.specs.Nodes.{FarNode, NearNode, SameFar, SameNear}
 use Rattle.mq_law_rows.specs.World.{Ghost, is_last}
 use Rattle.mq_law_seen.specs.Seen.{book_of, holds_of, world_of}
 use Rattle.mq_law_events.specs.Tied.{IsTold}
-use Rattle.mq_law_unshared.specs.Unshared.{WhereUp}
-use Rattle.mq_law_turns.specs.Agreed.{IsToldOf}
+use Rattle.mq_law_deeds.specs.from_law_unshared.Unshared.{WhereUp}
+use Rattle.mq_law_stopped.specs.from_law_turns.Agreed.{IsToldOf}
 use Rattle.mq_law_cables.specs.Joints.{AreCabled, AreJoint}
 use Rattle.mq_law_deeds.specs.Numbers.{AreCountedAt}
 use Rattle.mq_law_stopped.specs.Noted.{EndNote}

@@ -34,7 +34,7 @@ use Rattle.mq_law_scenario.proofs.SectionReads.{ok_cut, err_cut, section_found, 
 use Rattle.mq_law_scenario.proofs.TableReads.{part_found, part_refused}
 use Rattle.mq_law_scenario.proofs.Leaves.{skipped_found, unskipped_found, end_found, no_end_found, mqsc_word, rules_word, script_word, steps_word, own_cut_is, own_cut_found}
 use Rattle.mq_law_scenario.proofs.NextLines.{next_found, line_refused, next_step_found, step_refused}
-use Rattle.mq_law_scenario.specs.Texts.{Said, nothing_said, IsSkipped, Begins, NoneIs, text_of, IsOpenSection, IsOpenTable, IsNextLine, AreSpoken, IsOpenScript, IsNextStep, AreStepped, AreOpenSteps, IsOpen, IsBlock, AreBlocks, all_lines, IsText}
+use Rattle.mq_law_scenario.specs.Texts.{Said, nothing_said, IsSkipped, Begins, NoneIs, text_of, IsOpenText, IsOpenSection, IsOpenTable, IsNextLine, AreSpoken, IsOpenScript, IsNextStep, AreStepped, AreOpenSteps, IsOpen, IsBlock, AreBlocks, all_lines, IsText}
 use Rattle.mq_law_scenario.specs.Faults.{Stand, IsBadLine, IsCut, IsTextFault}
 use Rattle.mq_law_scenario.proofs.ReadBack.{ok_scenario, err_scenario, text_read, fault_read}
 
@@ -137,6 +137,20 @@ opened_more label manager first o inner line e =
     let base : Opened = record { label = label; manager = manager; first = first; text = text_of inner } in
     ap (text_added line) e ∙ ap (λ (t : List ℕ). record base { text = t }) (text_more inner line)
 
+text_grown : {part : List ℕ → ℕ → PartLine} {word : List ℕ} (n : ℕ) (before now : Said) (lines : List (List ℕ)) (o : Opened) (line : List ℕ) → IsOpenText part word n before lines o now → (IsOnly word line → ⊥) → IsOpenText part word n before (lines ++ line ∷ []) (text_added line o) now
+text_grown {part} {word} n before now lines o line h e = record {
+  head = h.head;
+  inner = h.inner ++ line ∷ [];
+  stage = h.stage;
+  label = h.label;
+  manager = h.manager;
+  whole = ap (λ (l : List (List ℕ)). l ++ line ∷ []) h.whole;
+  begins = h.begins;
+  within = none_more word h.inner line h.within e;
+  opens = opened_more h.label h.manager (n + 1) o h.inner line h.opens;
+  is = h.is;
+}
+
 section_ended : (n : ℕ) (before now : Said) (lines : List (List ℕ)) (o : Opened) (line : List ℕ) → IsOpenSection n before lines o now → is_only (codes "ENDMQSC") line ≡ true
     → (r : Result Section ScenarioFault) → mqsc_ended (n + length lines + 1) o ≡ r → Grown n before lines (insides.Mqsc o) now line
 section_ended n before now lines o line h e (Ok section) f =
@@ -146,23 +160,7 @@ section_ended n before now lines o line h e (Err fault) f = inr (inr (record { f
 
 section_grown : (n : ℕ) (before now : Said) (lines : List (List ℕ)) (o : Opened) (line : List ℕ) → IsOpenSection n before lines o now → (b : Bool) → is_only (codes "ENDMQSC") line ≡ b → Grown n before lines (insides.Mqsc o) now line
 section_grown n before now lines o line h true e = section_ended n before now lines o line h e (mqsc_ended (n + length lines + 1) o) refl
-section_grown n before now lines o line h false e =
-    inl (record {
-      inside = insides.Mqsc (text_added line o);
-      now = now;
-      opens = record {
-        head = h.head;
-        inner = h.inner ++ line ∷ [];
-        stage = h.stage;
-        label = h.label;
-        manager = h.manager;
-        whole = ap (λ (l : List (List ℕ)). l ++ line ∷ []) h.whole;
-        begins = h.begins;
-        within = none_more (codes "ENDMQSC") h.inner line h.within (no_end_found (codes "ENDMQSC") line mqsc_word e);
-        opens = opened_more h.label h.manager (n + 1) o h.inner line h.opens;
-        is = h.is;
-      };
-    })
+section_grown n before now lines o line h false e = inl (record { inside = insides.Mqsc (text_added line o); now = now; opens = text_grown n before now lines o line h (no_end_found (codes "ENDMQSC") line mqsc_word e) })
 
 table_ended : (n : ℕ) (before now : Said) (lines : List (List ℕ)) (o : Opened) (line : List ℕ) → IsOpenTable n before lines o now → is_only (codes "ENDRULES") line ≡ true
     → (r : Result RulesPart ScenarioFault) → rules_ended (own_name now.scenario.managers o.manager) o ≡ r → Grown n before lines (insides.Rules o) now line
@@ -173,23 +171,7 @@ table_ended n before now lines o line h e (Err fault) f = inr (inr (record { fau
 
 table_grown : (n : ℕ) (before now : Said) (lines : List (List ℕ)) (o : Opened) (line : List ℕ) → IsOpenTable n before lines o now → (b : Bool) → is_only (codes "ENDRULES") line ≡ b → Grown n before lines (insides.Rules o) now line
 table_grown n before now lines o line h true e = table_ended n before now lines o line h e (rules_ended (own_name now.scenario.managers o.manager) o) refl
-table_grown n before now lines o line h false e =
-    inl (record {
-      inside = insides.Rules (text_added line o);
-      now = now;
-      opens = record {
-        head = h.head;
-        inner = h.inner ++ line ∷ [];
-        stage = h.stage;
-        label = h.label;
-        manager = h.manager;
-        whole = ap (λ (l : List (List ℕ)). l ++ line ∷ []) h.whole;
-        begins = h.begins;
-        within = none_more (codes "ENDRULES") h.inner line h.within (no_end_found (codes "ENDRULES") line rules_word e);
-        opens = opened_more h.label h.manager (n + 1) o h.inner line h.opens;
-        is = h.is;
-      };
-    })
+table_grown n before now lines o line h false e = inl (record { inside = insides.Rules (text_added line o); now = now; opens = text_grown n before now lines o line h (no_end_found (codes "ENDRULES") line rules_word e) })
 
 -- ---- a line in a script
 
@@ -206,6 +188,24 @@ spoken_more [] left s behind t line said (e, f) h =
 spoken_more (other ∷ lines) left s behind t line said (inl (f, hs)) h = inl (f, spoken_more lines left s behind t line said hs h)
 spoken_more (other ∷ lines) left s behind t line said (inr (first, f, hs)) h = inr (first, f, spoken_more lines (left - put_len first) (script_added first s) behind t line said hs h)
 
+script_grows : (n : ℕ) (before now : Said) (lines : List (List ℕ)) (s : Script) (line : List ℕ) (h : IsOpenScript before lines s now) (left : ℕ) (t : Script) → AreSpoken before.left (new_script h.label h.manager) (h.inner ++ line ∷ []) left t → GoesOn n before (lines ++ line ∷ [])
+script_grows n before now lines s line h left t says = record {
+  inside = insides.Script t;
+  now = record { stage = h.stage; left = left; scenario = before.scenario };
+  opens = record {
+    head = h.head;
+    inner = h.inner ++ line ∷ [];
+    stage = h.stage;
+    label = h.label;
+    manager = h.manager;
+    left = left;
+    whole = ap (λ (l : List (List ℕ)). l ++ line ∷ []) h.whole;
+    begins = h.begins;
+    says = says;
+    is = refl;
+  };
+}
+
 left_now : (stage : Stage) (left : ℕ) (s : Scenario) (now : Said) → now ≡ record { stage = stage; left = left; scenario = s } → now.left ≡ left
 left_now stage left s now e = ap (λ (u : Said). u.left) e
 
@@ -214,22 +214,7 @@ script_said : (n : ℕ) (before now : Said) (lines : List (List ℕ)) (s : Scrip
 script_said n before now lines s line h e f (Ok said) g =
     let same : now.left ≡ h.left = left_now h.stage h.left before.scenario now h.is in
     let line_is : IsNextLine h.left s line said = subst (λ (l : ℕ). IsNextLine l s line said) same (let k = next_found now.left s line said g in record { unskipped = unskipped_found line e; unended = no_end_found (codes "ENDSCRIPT") line script_word f; room = k.0; says = k.1; order = k.2 }) in
-    inl (record {
-      inside = insides.Script (script_added said s);
-      now = record { stage = h.stage; left = h.left - put_len said; scenario = before.scenario };
-      opens = record {
-        head = h.head;
-        inner = h.inner ++ line ∷ [];
-        stage = h.stage;
-        label = h.label;
-        manager = h.manager;
-        left = h.left - put_len said;
-        whole = ap (λ (l : List (List ℕ)). l ++ line ∷ []) h.whole;
-        begins = h.begins;
-        says = spoken_more h.inner before.left (new_script h.label h.manager) h.left s line said h.says line_is;
-        is = refl;
-      };
-    })
+    inl (script_grows n before now lines s line h (h.left - put_len said) (script_added said s) (spoken_more h.inner before.left (new_script h.label h.manager) h.left s line said h.says line_is))
 script_said n before now lines s line h e f (Err own) g = inr (inr (record { fault = fault_at (n + length lines + 1) own; bad = (unskipped_found line e, no_end_found (codes "ENDSCRIPT") line script_word f, (own, line_refused now.left s line own g, refl)) }))
 
 script_ended : (n : ℕ) (before now : Said) (lines : List (List ℕ)) (s : Script) (line : List ℕ) → IsOpenScript before lines s now → is_skipped line ≡ false → (b : Bool) → is_only (codes "ENDSCRIPT") line ≡ b → Grown n before lines (insides.Script s) now line
@@ -239,23 +224,7 @@ script_ended n before now lines s line h e true f =
 script_ended n before now lines s line h e false f = script_said n before now lines s line h e f (script_read now.left line s) refl
 
 script_grown : (n : ℕ) (before now : Said) (lines : List (List ℕ)) (s : Script) (line : List ℕ) → IsOpenScript before lines s now → (b : Bool) → is_skipped line ≡ b → Grown n before lines (insides.Script s) now line
-script_grown n before now lines s line h true e =
-    inl (record {
-      inside = insides.Script s;
-      now = now;
-      opens = record {
-        head = h.head;
-        inner = h.inner ++ line ∷ [];
-        stage = h.stage;
-        label = h.label;
-        manager = h.manager;
-        left = h.left;
-        whole = ap (λ (l : List (List ℕ)). l ++ line ∷ []) h.whole;
-        begins = h.begins;
-        says = spoken_skip h.inner before.left (new_script h.label h.manager) h.left s line h.says (skipped_found line e);
-        is = h.is;
-      };
-    })
+script_grown n before now lines s line h true e = inl (script_grows n before now lines s line h h.left s (spoken_skip h.inner before.left (new_script h.label h.manager) h.left s line h.says (skipped_found line e)))
 script_grown n before now lines s line h false e = script_ended n before now lines s line h e (is_only (codes "ENDSCRIPT") line) refl
 
 -- ---- a line in the steps
@@ -270,26 +239,28 @@ stepped_more [] s t line step e h = inr (step, subst (λ (u : Scenario). IsNextS
 stepped_more (other ∷ lines) s t line step (inl (f, hs)) h = inl (f, stepped_more lines s t line step hs h)
 stepped_more (other ∷ lines) s t line step (inr (first, f, hs)) h = inr (first, f, stepped_more lines (record s { steps = s.steps ++ first ∷ [] }) t line step hs h)
 
+steps_grow : (n : ℕ) (before now : Said) (lines : List (List ℕ)) (line : List ℕ) (h : AreOpenSteps before lines now) (t : Scenario) → AreStepped before.scenario (h.inner ++ line ∷ []) t → GoesOn n before (lines ++ line ∷ [])
+steps_grow n before now lines line h t says = record {
+  inside = insides.Steps;
+  now = record { stage = h.stage; left = before.left; scenario = t };
+  opens = record {
+    head = h.head;
+    inner = h.inner ++ line ∷ [];
+    stage = h.stage;
+    scenario = t;
+    whole = ap (λ (l : List (List ℕ)). l ++ line ∷ []) h.whole;
+    begins = h.begins;
+    says = says;
+    is = refl;
+  };
+}
+
 step_said : (n : ℕ) (before now : Said) (lines : List (List ℕ)) (line : List ℕ) → AreOpenSteps before lines now → is_skipped line ≡ false → is_only (codes "ENDSTEPS") line ≡ false
     → (r : Result (Unit {0} × Step) LineFault) → step_read now.scenario line ≡ r → Grown n before lines insides.Steps now line
 step_said n before now lines line h e f (Ok (done, step)) g =
     let same : now.scenario ≡ h.scenario = ap (λ (u : Said). u.scenario) h.is in
     let line_is : IsNextStep h.scenario line step = subst (λ (s : Scenario). IsNextStep s line step) same (let k = next_step_found now.scenario line step g in record { unskipped = unskipped_found line e; unended = no_end_found (codes "ENDSTEPS") line steps_word f; room = k.0; says = k.1 }) in
-    let t : Scenario = record h.scenario { steps = h.scenario.steps ++ step ∷ [] } in
-    inl (record {
-      inside = insides.Steps;
-      now = record { stage = h.stage; left = before.left; scenario = t };
-      opens = record {
-        head = h.head;
-        inner = h.inner ++ line ∷ [];
-        stage = h.stage;
-        scenario = t;
-        whole = ap (λ (l : List (List ℕ)). l ++ line ∷ []) h.whole;
-        begins = h.begins;
-        says = stepped_more h.inner before.scenario h.scenario line step h.says line_is;
-        is = refl;
-      };
-    })
+    inl (steps_grow n before now lines line h (record h.scenario { steps = h.scenario.steps ++ step ∷ [] }) (stepped_more h.inner before.scenario h.scenario line step h.says line_is))
 step_said n before now lines line h e f (Err own) g = inr (inr (record { fault = fault_at (n + length lines + 1) own; bad = (unskipped_found line e, no_end_found (codes "ENDSTEPS") line steps_word f, (own, step_refused now.scenario line own g, refl)) }))
 
 steps_ended : (n : ℕ) (before now : Said) (lines : List (List ℕ)) (line : List ℕ) → AreOpenSteps before lines now → is_skipped line ≡ false → (b : Bool) → is_only (codes "ENDSTEPS") line ≡ b → Grown n before lines insides.Steps now line
@@ -297,21 +268,7 @@ steps_ended n before now lines line h e true f = inr (inl (record { after = now;
 steps_ended n before now lines line h e false f = step_said n before now lines line h e f (step_read now.scenario line) refl
 
 steps_grown : (n : ℕ) (before now : Said) (lines : List (List ℕ)) (line : List ℕ) → AreOpenSteps before lines now → (b : Bool) → is_skipped line ≡ b → Grown n before lines insides.Steps now line
-steps_grown n before now lines line h true e =
-    inl (record {
-      inside = insides.Steps;
-      now = now;
-      opens = record {
-        head = h.head;
-        inner = h.inner ++ line ∷ [];
-        stage = h.stage;
-        scenario = h.scenario;
-        whole = ap (λ (l : List (List ℕ)). l ++ line ∷ []) h.whole;
-        begins = h.begins;
-        says = stepped_skip h.inner before.scenario h.scenario line h.says (skipped_found line e);
-        is = h.is;
-      };
-    })
+steps_grown n before now lines line h true e = inl (steps_grow n before now lines line h h.scenario (stepped_skip h.inner before.scenario h.scenario line h.says (skipped_found line e)))
 steps_grown n before now lines line h false e = steps_ended n before now lines line h e (is_only (codes "ENDSTEPS") line) refl
 
 nothing_grown : (n : ℕ) (before now : Said) (lines : List (List ℕ)) (line : List ℕ) → lines ≡ [] → now ≡ before → Grown n before lines insides.Nothing now line

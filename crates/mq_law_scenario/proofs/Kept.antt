@@ -1,6 +1,6 @@
 -- What a scenario that is read keeps to: block by block, names and labels differ and all that is named is there.
 use Rattle.std.proofs.Common.{◌≡◌, ◌≢◌, ℕ, ◌+◌, ◌<◌, ◌≤◌, Bool, true, false, cond, List, [], ◌∷◌, ◌++◌, length, map, refl, sym, ap, subst, ◌∙◌, append_assoc, arith, inl, inr}
-use Rattle.std.specs.Prelude.{nat_lt, IfSome, Some, None}
+use Rattle.std.specs.Prelude.{nat_lt, IfSome, Option, Some, None}
 use Rattle.std.proofs.lemmas.List.{length-append, map-append}
 use Rattle.std.proofs.lemmas.Bool.Decides.{nat_tests}
 use Rattle.mq_history.specs.declared.scenario.Scenario.{Scenario}
@@ -33,50 +33,59 @@ use Rattle.mq_law_scenario.proofs.Each.{Each, each_more, each_map, each_all, Apa
 use Rattle.mq_law_scenario.proofs.Said.{Joins, IsOwned, names, channels, IsAllowed, IsSaid, line_said}
 use Rattle.mq_law_scenario.proofs.StepKept.{StepIn, Named, step_is, IsScriptOf, spoken_kept, section_kept, table_kept, step_kept}
 
--- what holds at each stage
+-- what holds at each stage: of the steps, for which there must be managers and the other parts,
+record KeepsSteps (stage : Stage) (m a b c d : ℕ) (ss : List Step) : Type 0 where
+  pub some : 3 ≤ stage_rank stage → 1 ≤ m
+  pub stepless : stage_rank stage ≤ 5 → ss ≡ []
+  pub few : length ss ≤ 3000
+  pub are : Each (StepIn m a b c d) ss
+
+-- of the moment, the managers and their cables,
+record KeepsNetwork (moment_ : Option ℕ) (ms : List ManagerLine) (cs : List CableLine) : Type 0 where
+  pub moment : IfSome moment_ (λ moment. moment ≤ 253300000000000)
+  pub few_managers : length ms ≤ 8
+  pub managers : Each IsManager ms
+  pub differ : Apart (map (λ (l : ManagerLine). l.name) ms)
+  pub few_cables : length cs ≤ 32
+  pub cables : Each (Joins (length ms)) cs
+  pub channelled : Apart (map (λ (l : CableLine). l.channel) cs)
+
+-- of sections and rules tables, of scripts and of monitors, where there are so many managers,
+record KeepsTexts (m : ℕ) (ps : List Section) (qs : List RulesPart) : Type 0 where
+  pub few : length ps + length qs ≤ 64
+  pub sections : Each (λ (p : Section). p.manager < m) ps
+  pub rules : Each (λ (p : RulesPart). p.manager < m) qs
+
+record KeepsScripts (m : ℕ) (ps : List ScriptPart) : Type 0 where
+  pub few : length ps ≤ 64
+  pub are : Each (λ (p : ScriptPart). (p.manager < m) × (length p.lines ≤ 25000)) ps
+
+record KeepsMonitors (m : ℕ) (ps : List MonitorLine) : Type 0 where
+  pub few : length ps ≤ 16
+  pub are : Each (λ (p : MonitorLine). p.manager < m) ps
+
+-- and of their labels
 record Keeps (stage : Stage) (s : Scenario) : Type 0 where
-  pub some : 3 ≤ stage_rank stage → 1 ≤ length s.managers
-  pub stepless : stage_rank stage ≤ 5 → s.steps ≡ []
-  pub few_managers : length s.managers ≤ 8
-  pub few_cables : length s.cables ≤ 32
-  pub few_sections : length s.sections + length s.rules ≤ 64
-  pub few_scripts : length s.scripts ≤ 64
-  pub few_monitors : length s.monitors ≤ 16
-  pub few_steps : length s.steps ≤ 3000
-  pub moment : IfSome s.moment (λ moment. moment ≤ 253300000000000)
-  pub managers : Each IsManager s.managers
-  pub differ : Apart (names s)
-  pub cables : Each (Joins (length s.managers)) s.cables
-  pub channelled : Apart (channels s)
+  pub steps : KeepsSteps stage (length s.managers) (length s.sections) (length s.rules) (length s.scripts) (length s.monitors) s.steps
+  pub network : KeepsNetwork s.moment s.managers s.cables
+  pub texts : KeepsTexts (length s.managers) s.sections s.rules
+  pub scripts : KeepsScripts (length s.managers) s.scripts
+  pub monitors : KeepsMonitors (length s.managers) s.monitors
   pub labelled : Apart (labels s)
-  pub sections : Each (λ (p : Section). p.manager < length s.managers) s.sections
-  pub rules : Each (λ (p : RulesPart). p.manager < length s.managers) s.rules
-  pub scripts : Each (λ (p : ScriptPart). (p.manager < length s.managers) × (length p.lines ≤ 25000)) s.scripts
-  pub monitors : Each (λ (m : MonitorLine). m.manager < length s.managers) s.monitors
-  pub steps : Each (StepIn (length s.managers) (length s.sections) (length s.rules) (length s.scripts) (length s.monitors)) s.steps
 
 start : Keeps stages.Start nothing_said.scenario
 start = record {
-  some = λ le. absurd (omega arith);
-  stepless = λ le. refl;
-  few_managers = omega arith;
-  few_cables = omega arith;
-  few_sections = omega arith;
-  few_scripts = omega arith;
-  few_monitors = omega arith;
-  few_steps = omega arith;
-  moment = tt;
-  managers = tt;
-  differ = tt;
-  cables = tt;
-  channelled = tt;
+  steps = record { some = λ le. absurd (omega arith); stepless = λ le. refl; few = omega arith; are = tt };
+  network = record { moment = tt; few_managers = omega arith; managers = tt; differ = tt; few_cables = omega arith; cables = tt; channelled = tt };
+  texts = record { few = omega arith; sections = tt; rules = tt };
+  scripts = record { few = omega arith; are = tt };
+  monitors = record { few = omega arith; are = tt };
   labelled = tt;
-  sections = tt;
-  rules = tt;
-  scripts = tt;
-  monitors = tt;
-  steps = tt;
 }
+
+-- where there is no step yet
+unbegun : (stage : Stage) (m a b c d : ℕ) (ss : List Step) → ss ≡ [] → (3 ≤ stage_rank stage → 1 ≤ m) → KeepsSteps stage m a b c d ss
+unbegun stage m a b c d ss e some = subst (KeepsSteps stage m a b c d) (sym e) (record { some = some; stepless = λ le. refl; few = omega arith; are = tt })
 
 -- ---- room
 
@@ -94,43 +103,30 @@ one_longer xs x = length-append xs (x ∷ [])
 
 -- no step stands before the last part, and a manager stands before all parts but the first
 passed : (word : PartWord) (s : Scenario) (stage next : Stage) → Keeps stage s → IsAllowed s stage word next → s.steps ≡ []
-passed words.Network s stage next h a = h.stepless (omega (arith, a.passed))
-passed words.Moment s stage next h a = h.stepless (omega (arith, a.passed))
-passed words.Manager s stage next h a = h.stepless (omega (arith, a.passed))
-passed words.Cable s stage next h a = h.stepless (omega (arith, a.passed))
-passed words.Mqsc s stage next h a = h.stepless (omega (arith, a.passed))
-passed words.Rules s stage next h a = h.stepless (omega (arith, a.passed))
-passed words.Script s stage next h a = h.stepless (omega (arith, a.passed))
-passed words.Monitor s stage next h a = h.stepless (omega (arith, a.passed))
-passed words.Steps s stage next h a = h.stepless (omega (arith, a.passed))
+passed words.Network s stage next h a = h.steps.stepless (omega (arith, a.passed))
+passed words.Moment s stage next h a = h.steps.stepless (omega (arith, a.passed))
+passed words.Manager s stage next h a = h.steps.stepless (omega (arith, a.passed))
+passed words.Cable s stage next h a = h.steps.stepless (omega (arith, a.passed))
+passed words.Mqsc s stage next h a = h.steps.stepless (omega (arith, a.passed))
+passed words.Rules s stage next h a = h.steps.stepless (omega (arith, a.passed))
+passed words.Script s stage next h a = h.steps.stepless (omega (arith, a.passed))
+passed words.Monitor s stage next h a = h.steps.stepless (omega (arith, a.passed))
+passed words.Steps s stage next h a = h.steps.stepless (omega (arith, a.passed))
 
 -- the same scenario at another stage
 moved : (stage next : Stage) (s : Scenario) → Keeps stage s → s.steps ≡ [] → (3 ≤ stage_rank next → 1 ≤ length s.managers) → Keeps next s
-moved stage next s h e f = record {
-  some = f;
-  stepless = λ le. e;
-  few_managers = h.few_managers;
-  few_cables = h.few_cables;
-  few_sections = h.few_sections;
-  few_scripts = h.few_scripts;
-  few_monitors = h.few_monitors;
-  few_steps = h.few_steps;
-  moment = h.moment;
-  managers = h.managers;
-  differ = h.differ;
-  cables = h.cables;
-  channelled = h.channelled;
-  labelled = h.labelled;
-  sections = h.sections;
-  rules = h.rules;
+moved stage next s h e some = record {
+  steps = unbegun next (length s.managers) (length s.sections) (length s.rules) (length s.scripts) (length s.monitors) s.steps e some;
+  network = h.network;
+  texts = h.texts;
   scripts = h.scripts;
   monitors = h.monitors;
-  steps = h.steps;
+  labelled = h.labelled;
 }
 
 -- a part that stands behind the managers
 behind_managers : (word : PartWord) (s : Scenario) (stage next : Stage) → 3 ≤ stage_rank (from_stage word) → Keeps stage s → IsAllowed s stage word next → Keeps next s
-behind_managers word s stage next from h a = moved stage next s h (passed word s stage next h a) (λ le. h.some (omega (arith, from, a.begun)))
+behind_managers word s stage next from h a = moved stage next s h (passed word s stage next h a) (λ le. h.steps.some (omega (arith, from, a.begun)))
 
 -- ---- parts of one line
 
@@ -142,26 +138,14 @@ network_kept s stage next h a =
 moment_kept : (s : Scenario) (stage next : Stage) (moment : ℕ) → Keeps stage s → IsAllowed s stage words.Moment next → moment ≤ 253300000000000 → Keeps next (record s { moment = Some moment })
 moment_kept s stage next moment h a le =
     let k : stage_rank next ≡ 2 = ap stage_rank a.is in
+    let n = h.network in
     record {
-      some = λ l. absurd (omega (arith, k, l));
-      stepless = λ l. passed words.Moment s stage next h a;
-      few_managers = h.few_managers;
-      few_cables = h.few_cables;
-      few_sections = h.few_sections;
-      few_scripts = h.few_scripts;
-      few_monitors = h.few_monitors;
-      few_steps = h.few_steps;
-      moment = le;
-      managers = h.managers;
-      differ = h.differ;
-      cables = h.cables;
-      channelled = h.channelled;
-      labelled = h.labelled;
-      sections = h.sections;
-      rules = h.rules;
+      steps = unbegun next (length s.managers) (length s.sections) (length s.rules) (length s.scripts) (length s.monitors) s.steps (passed words.Moment s stage next h a) (λ l. absurd (omega (arith, k, l)));
+      network = record { moment = le; few_managers = n.few_managers; managers = n.managers; differ = n.differ; few_cables = n.few_cables; cables = n.cables; channelled = n.channelled };
+      texts = h.texts;
       scripts = h.scripts;
       monitors = h.monitors;
-      steps = h.steps;
+      labelled = h.labelled;
     }
 
 wider : (n m : ℕ) (c : CableLine) → n ≤ m → Joins n c → Joins m c
@@ -172,27 +156,29 @@ manager_kept s stage next m h a is new =
     let long : length (s.managers ++ m ∷ []) ≡ length s.managers + 1 = one_longer s.managers m in
     let room : length s.managers < 8 = has_room (length s.managers) 8 limits.Managers a.room in
     let less : length s.managers ≤ length (s.managers ++ m ∷ []) = omega (arith, long) in
-    let none : s.steps ≡ [] = passed words.Manager s stage next h a in
+    let n = h.network in
     record {
-      some = λ l. omega (arith, long);
-      stepless = λ l. none;
-      few_managers = omega (arith, long, room);
-      few_cables = h.few_cables;
-      few_sections = h.few_sections;
-      few_scripts = h.few_scripts;
-      few_monitors = h.few_monitors;
-      few_steps = h.few_steps;
-      moment = h.moment;
-      managers = each_more IsManager s.managers m h.managers is;
-      differ = subst Apart (sym (map-append (λ (l : ManagerLine). l.name) s.managers (m ∷ []))) (apart_more (names s) m.name h.differ new);
-      cables = each_map (Joins (length s.managers)) (Joins (length (s.managers ++ m ∷ []))) s.cables (λ c j. wider (length s.managers) (length (s.managers ++ m ∷ [])) c less j) h.cables;
-      channelled = h.channelled;
+      steps = unbegun next (length (s.managers ++ m ∷ [])) (length s.sections) (length s.rules) (length s.scripts) (length s.monitors) s.steps (passed words.Manager s stage next h a) (λ l. omega (arith, long));
+      network = record {
+        moment = n.moment;
+        few_managers = omega (arith, long, room);
+        managers = each_more IsManager s.managers m n.managers is;
+        differ = subst Apart (sym (map-append (λ (l : ManagerLine). l.name) s.managers (m ∷ []))) (apart_more (names s) m.name n.differ new);
+        few_cables = n.few_cables;
+        cables = each_map (Joins (length s.managers)) (Joins (length (s.managers ++ m ∷ []))) s.cables (λ c j. wider (length s.managers) (length (s.managers ++ m ∷ [])) c less j) n.cables;
+        channelled = n.channelled;
+      };
+      texts = record {
+        few = h.texts.few;
+        sections = each_map (λ (p : Section). p.manager < length s.managers) (λ (p : Section). p.manager < length (s.managers ++ m ∷ [])) s.sections (λ p l. omega (arith, less, l)) h.texts.sections;
+        rules = each_map (λ (p : RulesPart). p.manager < length s.managers) (λ (p : RulesPart). p.manager < length (s.managers ++ m ∷ [])) s.rules (λ p l. omega (arith, less, l)) h.texts.rules;
+      };
+      scripts = record {
+        few = h.scripts.few;
+        are = each_map (λ (p : ScriptPart). (p.manager < length s.managers) × (length p.lines ≤ 25000)) (λ (p : ScriptPart). (p.manager < length (s.managers ++ m ∷ [])) × (length p.lines ≤ 25000)) s.scripts (λ p l. (omega (arith, less, l.0), l.1)) h.scripts.are;
+      };
+      monitors = record { few = h.monitors.few; are = each_map (λ (p : MonitorLine). p.manager < length s.managers) (λ (p : MonitorLine). p.manager < length (s.managers ++ m ∷ [])) s.monitors (λ p l. omega (arith, less, l)) h.monitors.are };
       labelled = h.labelled;
-      sections = each_map (λ (p : Section). p.manager < length s.managers) (λ (p : Section). p.manager < length (s.managers ++ m ∷ [])) s.sections (λ p l. omega (arith, less, l)) h.sections;
-      rules = each_map (λ (p : RulesPart). p.manager < length s.managers) (λ (p : RulesPart). p.manager < length (s.managers ++ m ∷ [])) s.rules (λ p l. omega (arith, less, l)) h.rules;
-      scripts = each_map (λ (p : ScriptPart). (p.manager < length s.managers) × (length p.lines ≤ 25000)) (λ (p : ScriptPart). (p.manager < length (s.managers ++ m ∷ [])) × (length p.lines ≤ 25000)) s.scripts (λ p l. (omega (arith, less, l.0), l.1)) h.scripts;
-      monitors = each_map (λ (p : MonitorLine). p.manager < length s.managers) (λ (p : MonitorLine). p.manager < length (s.managers ++ m ∷ [])) s.monitors (λ p l. omega (arith, less, l)) h.monitors;
-      steps = subst (Each (StepIn (length (s.managers ++ m ∷ [])) (length s.sections) (length s.rules) (length s.scripts) (length s.monitors))) (sym none) tt;
     }
 
 cable_kept : (s : Scenario) (stage next : Stage) (c : CableLine) → Keeps stage s → IsAllowed s stage words.Cable next → Joins (length s.managers) c → Each (λ y. c.channel ≢ y) (channels s) → Keeps next (record s { cables = s.cables ++ c ∷ [] })
@@ -200,26 +186,22 @@ cable_kept s stage next c h a joins new =
     let k = behind_managers words.Cable s stage next (omega arith) h a in
     let long : length (s.cables ++ c ∷ []) ≡ length s.cables + 1 = one_longer s.cables c in
     let room : length s.cables < 32 = has_room (length s.cables) 32 limits.Cables a.room in
+    let n = h.network in
     record {
-      some = k.some;
-      stepless = k.stepless;
-      few_managers = h.few_managers;
-      few_cables = omega (arith, long, room);
-      few_sections = h.few_sections;
-      few_scripts = h.few_scripts;
-      few_monitors = h.few_monitors;
-      few_steps = h.few_steps;
-      moment = h.moment;
-      managers = h.managers;
-      differ = h.differ;
-      cables = each_more (Joins (length s.managers)) s.cables c h.cables joins;
-      channelled = subst Apart (sym (map-append (λ (l : CableLine). l.channel) s.cables (c ∷ []))) (apart_more (channels s) c.channel h.channelled new);
-      labelled = h.labelled;
-      sections = h.sections;
-      rules = h.rules;
+      steps = k.steps;
+      network = record {
+        moment = n.moment;
+        few_managers = n.few_managers;
+        managers = n.managers;
+        differ = n.differ;
+        few_cables = omega (arith, long, room);
+        cables = each_more (Joins (length s.managers)) s.cables c n.cables joins;
+        channelled = subst Apart (sym (map-append (λ (l : CableLine). l.channel) s.cables (c ∷ []))) (apart_more (channels s) c.channel n.channelled new);
+      };
+      texts = h.texts;
       scripts = h.scripts;
       monitors = h.monitors;
-      steps = h.steps;
+      labelled = h.labelled;
     }
 
 -- ---- labels
@@ -294,25 +276,12 @@ monitor_kept s stage next m h a owned =
     let long : length (s.monitors ++ m ∷ []) ≡ length s.monitors + 1 = one_longer s.monitors m in
     let room : length s.monitors < 16 = has_room (length s.monitors) 16 limits.Monitors a.room in
     record {
-      some = k.some;
-      stepless = k.stepless;
-      few_managers = h.few_managers;
-      few_cables = h.few_cables;
-      few_sections = h.few_sections;
-      few_scripts = h.few_scripts;
-      few_monitors = omega (arith, long, room);
-      few_steps = h.few_steps;
-      moment = h.moment;
-      managers = h.managers;
-      differ = h.differ;
-      cables = h.cables;
-      channelled = h.channelled;
-      labelled = monitor_labelled s m h.labelled owned.new;
-      sections = h.sections;
-      rules = h.rules;
+      steps = unbegun next (length s.managers) (length s.sections) (length s.rules) (length s.scripts) (length (s.monitors ++ m ∷ [])) s.steps (passed words.Monitor s stage next h a) k.steps.some;
+      network = h.network;
+      texts = h.texts;
       scripts = h.scripts;
-      monitors = each_more (λ (p : MonitorLine). p.manager < length s.managers) s.monitors m h.monitors owned.there;
-      steps = subst (Each (StepIn (length s.managers) (length s.sections) (length s.rules) (length s.scripts) (length (s.monitors ++ m ∷ [])))) (sym (passed words.Monitor s stage next h a)) tt;
+      monitors = record { few = omega (arith, long, room); are = each_more (λ (p : MonitorLine). p.manager < length s.managers) s.monitors m h.monitors.are owned.there };
+      labelled = monitor_labelled s m h.labelled owned.new;
     }
 
 part_kept : (part : PartLine) (s t : Scenario) (stage next : Stage) → Keeps stage s → IsSaid s stage next part → Adds part s t → Keeps next t
@@ -335,25 +304,12 @@ section_added s stage next p label manager h a e f =
     let long : length (s.sections ++ p ∷ []) ≡ length s.sections + 1 = one_longer s.sections p in
     let room : length s.sections + length s.rules < 64 = has_room (length s.sections + length s.rules) 64 limits.Sections a.order.room in
     record {
-      some = k.some;
-      stepless = k.stepless;
-      few_managers = h.few_managers;
-      few_cables = h.few_cables;
-      few_sections = omega (arith, long, room);
-      few_scripts = h.few_scripts;
-      few_monitors = h.few_monitors;
-      few_steps = h.few_steps;
-      moment = h.moment;
-      managers = h.managers;
-      differ = h.differ;
-      cables = h.cables;
-      channelled = h.channelled;
-      labelled = section_labelled s p h.labelled (subst (λ (l : List ℕ). Each (λ y. l ≢ y) (labels s)) (sym e) a.good.new);
-      sections = each_more (λ (q : Section). q.manager < length s.managers) s.sections p h.sections (subst (λ (n : ℕ). n < length s.managers) (sym f) a.good.there);
-      rules = h.rules;
+      steps = unbegun next (length s.managers) (length (s.sections ++ p ∷ [])) (length s.rules) (length s.scripts) (length s.monitors) s.steps (passed words.Mqsc s stage next h a.order) k.steps.some;
+      network = h.network;
+      texts = record { few = omega (arith, long, room); sections = each_more (λ (q : Section). q.manager < length s.managers) s.sections p h.texts.sections (subst (λ (n : ℕ). n < length s.managers) (sym f) a.good.there); rules = h.texts.rules };
       scripts = h.scripts;
       monitors = h.monitors;
-      steps = subst (Each (StepIn (length s.managers) (length (s.sections ++ p ∷ [])) (length s.rules) (length s.scripts) (length s.monitors))) (sym (passed words.Mqsc s stage next h a.order)) tt;
+      labelled = section_labelled s p h.labelled (subst (λ (l : List ℕ). Each (λ y. l ≢ y) (labels s)) (sym e) a.good.new);
     }
 
 table_added : (s : Scenario) (stage next : Stage) (p : RulesPart) (label : List ℕ) (manager : ℕ) → Keeps stage s → IsSaid s stage next (parts.Rules label manager) → p.label ≡ label → p.manager ≡ manager → Keeps next (record s { rules = s.rules ++ p ∷ [] })
@@ -362,25 +318,12 @@ table_added s stage next p label manager h a e f =
     let long : length (s.rules ++ p ∷ []) ≡ length s.rules + 1 = one_longer s.rules p in
     let room : length s.sections + length s.rules < 64 = has_room (length s.sections + length s.rules) 64 limits.Sections a.order.room in
     record {
-      some = k.some;
-      stepless = k.stepless;
-      few_managers = h.few_managers;
-      few_cables = h.few_cables;
-      few_sections = omega (arith, long, room);
-      few_scripts = h.few_scripts;
-      few_monitors = h.few_monitors;
-      few_steps = h.few_steps;
-      moment = h.moment;
-      managers = h.managers;
-      differ = h.differ;
-      cables = h.cables;
-      channelled = h.channelled;
-      labelled = rules_labelled s p h.labelled (subst (λ (l : List ℕ). Each (λ y. l ≢ y) (labels s)) (sym e) a.good.new);
-      sections = h.sections;
-      rules = each_more (λ (q : RulesPart). q.manager < length s.managers) s.rules p h.rules (subst (λ (n : ℕ). n < length s.managers) (sym f) a.good.there);
+      steps = unbegun next (length s.managers) (length s.sections) (length (s.rules ++ p ∷ [])) (length s.scripts) (length s.monitors) s.steps (passed words.Rules s stage next h a.order) k.steps.some;
+      network = h.network;
+      texts = record { few = omega (arith, long, room); sections = h.texts.sections; rules = each_more (λ (q : RulesPart). q.manager < length s.managers) s.rules p h.texts.rules (subst (λ (n : ℕ). n < length s.managers) (sym f) a.good.there) };
       scripts = h.scripts;
       monitors = h.monitors;
-      steps = subst (Each (StepIn (length s.managers) (length s.sections) (length (s.rules ++ p ∷ [])) (length s.scripts) (length s.monitors))) (sym (passed words.Rules s stage next h a.order)) tt;
+      labelled = rules_labelled s p h.labelled (subst (λ (l : List ℕ). Each (λ y. l ≢ y) (labels s)) (sym e) a.good.new);
     }
 
 script_added_kept : (s : Scenario) (stage next : Stage) (u : Script) (label : List ℕ) (manager : ℕ) → Keeps stage s → IsSaid s stage next (parts.Script label manager) → IsScriptOf label manager u → Keeps next (record s { scripts = s.scripts ++ u.part ∷ [] })
@@ -389,50 +332,29 @@ script_added_kept s stage next u label manager h a of =
     let long : length (s.scripts ++ u.part ∷ []) ≡ length s.scripts + 1 = one_longer s.scripts u.part in
     let room : length s.scripts < 64 = has_room (length s.scripts) 64 limits.Scripts a.order.room in
     record {
-      some = k.some;
-      stepless = k.stepless;
-      few_managers = h.few_managers;
-      few_cables = h.few_cables;
-      few_sections = h.few_sections;
-      few_scripts = omega (arith, long, room);
-      few_monitors = h.few_monitors;
-      few_steps = h.few_steps;
-      moment = h.moment;
-      managers = h.managers;
-      differ = h.differ;
-      cables = h.cables;
-      channelled = h.channelled;
-      labelled = script_labelled s u.part h.labelled (subst (λ (l : List ℕ). Each (λ y. l ≢ y) (labels s)) (sym of.labelled) a.good.new);
-      sections = h.sections;
-      rules = h.rules;
-      scripts = each_more (λ (q : ScriptPart). (q.manager < length s.managers) × (length q.lines ≤ 25000)) s.scripts u.part h.scripts (subst (λ (n : ℕ). n < length s.managers) (sym of.managed) a.good.there, of.few);
+      steps = unbegun next (length s.managers) (length s.sections) (length s.rules) (length (s.scripts ++ u.part ∷ [])) (length s.monitors) s.steps (passed words.Script s stage next h a.order) k.steps.some;
+      network = h.network;
+      texts = h.texts;
+      scripts = record { few = omega (arith, long, room); are = each_more (λ (q : ScriptPart). (q.manager < length s.managers) × (length q.lines ≤ 25000)) s.scripts u.part h.scripts.are (subst (λ (n : ℕ). n < length s.managers) (sym of.managed) a.good.there, of.few) };
       monitors = h.monitors;
-      steps = subst (Each (StepIn (length s.managers) (length s.sections) (length s.rules) (length (s.scripts ++ u.part ∷ [])) (length s.monitors))) (sym (passed words.Script s stage next h a.order)) tt;
+      labelled = script_labelled s u.part h.labelled (subst (λ (l : List ℕ). Each (λ y. l ≢ y) (labels s)) (sym of.labelled) a.good.new);
     }
 
 step_added : (s : Scenario) (step : Step) → Keeps stages.Steps s → length s.steps < 3000 → Named s step → Keeps stages.Steps (record s { steps = s.steps ++ step ∷ [] })
 step_added s step h room named =
     let long : length (s.steps ++ step ∷ []) ≡ length s.steps + 1 = one_longer s.steps step in
     record {
-      some = h.some;
-      stepless = λ le. absurd (omega (arith, le));
-      few_managers = h.few_managers;
-      few_cables = h.few_cables;
-      few_sections = h.few_sections;
-      few_scripts = h.few_scripts;
-      few_monitors = h.few_monitors;
-      few_steps = omega (arith, long, room);
-      moment = h.moment;
-      managers = h.managers;
-      differ = h.differ;
-      cables = h.cables;
-      channelled = h.channelled;
-      labelled = h.labelled;
-      sections = h.sections;
-      rules = h.rules;
+      steps = record {
+        some = h.steps.some;
+        stepless = λ le. absurd (omega (arith, le));
+        few = omega (arith, long, room);
+        are = each_more (StepIn (length s.managers) (length s.sections) (length s.rules) (length s.scripts) (length s.monitors)) s.steps step h.steps.are named;
+      };
+      network = h.network;
+      texts = h.texts;
       scripts = h.scripts;
       monitors = h.monitors;
-      steps = each_more (StepIn (length s.managers) (length s.sections) (length s.rules) (length s.scripts) (length s.monitors)) s.steps step h.steps named;
+      labelled = h.labelled;
     }
 
 stepped_kept : (lines : List (List ℕ)) (s t : Scenario) → AreStepped s lines t → Keeps stages.Steps s → Keeps stages.Steps t
@@ -504,20 +426,22 @@ cable_is : (s : Scenario) (c : CableLine) → Joins (length s.managers) c → Is
 cable_is s c j = record { sender = j.sender; receiver = j.receiver; apart = j.differ }
 
 kept_is : (s : Scenario) → Keeps stages.Steps s → IsScenario s
-kept_is s h = record {
-  few = record { managers = (h.some (omega arith), h.few_managers); cables = h.few_cables; sections = h.few_sections; scripts = h.few_scripts; monitors = h.few_monitors; steps = h.few_steps };
-  moment = h.moment;
-  managers = each_all IsManager s.managers h.managers;
-  names = apart_all (names s) h.differ;
-  cables = each_all (IsCable s) s.cables (each_map (Joins (length s.managers)) (IsCable s) s.cables (λ c j. cable_is s c j) h.cables);
-  channels = apart_all (channels s) h.channelled;
-  labelled = apart_all (labels s) h.labelled;
-  sections = each_all (λ (p : Section). p.manager < length s.managers) s.sections h.sections;
-  rules = each_all (λ (p : RulesPart). p.manager < length s.managers) s.rules h.rules;
-  scripts = each_all (λ (p : ScriptPart). (p.manager < length s.managers) × (length p.lines ≤ 25000)) s.scripts h.scripts;
-  monitors = each_all (λ (m : MonitorLine). m.manager < length s.managers) s.monitors h.monitors;
-  steps = each_all (IsStep s) s.steps (each_map (StepIn (length s.managers) (length s.sections) (length s.rules) (length s.scripts) (length s.monitors)) (IsStep s) s.steps (λ step n. step_is s step n) h.steps);
-}
+kept_is s h =
+    let n = h.network in
+    record {
+      few = record { managers = (h.steps.some (omega arith), n.few_managers); cables = n.few_cables; sections = h.texts.few; scripts = h.scripts.few; monitors = h.monitors.few; steps = h.steps.few };
+      moment = n.moment;
+      managers = each_all IsManager s.managers n.managers;
+      names = apart_all (names s) n.differ;
+      cables = each_all (IsCable s) s.cables (each_map (Joins (length s.managers)) (IsCable s) s.cables (λ c j. cable_is s c j) n.cables);
+      channels = apart_all (channels s) n.channelled;
+      labelled = apart_all (labels s) h.labelled;
+      sections = each_all (λ (p : Section). p.manager < length s.managers) s.sections h.texts.sections;
+      rules = each_all (λ (p : RulesPart). p.manager < length s.managers) s.rules h.texts.rules;
+      scripts = each_all (λ (p : ScriptPart). (p.manager < length s.managers) × (length p.lines ≤ 25000)) s.scripts h.scripts.are;
+      monitors = each_all (λ (m : MonitorLine). m.manager < length s.managers) s.monitors h.monitors.are;
+      steps = each_all (IsStep s) s.steps (each_map (StepIn (length s.managers) (length s.sections) (length s.rules) (length s.scripts) (length s.monitors)) (IsStep s) s.steps (λ step n. step_is s step n) h.steps.are);
+    }
 
 -- a text's scenario keeps to all that is meant by one
 pub text_kept : (text : List ℕ) (s : Scenario) → IsText text s → IsScenario s

@@ -31,7 +31,7 @@ use Rattle.mq_law_scenario.proofs.SectionReads.{ok_cut, section_is, section_faul
 use Rattle.mq_law_scenario.proofs.TableReads.{part_is, part_fault_is}
 use Rattle.mq_law_scenario.proofs.Leaves.{skipped_is, unskipped_is, end_is, no_end_is, mqsc_word, rules_word, script_word, steps_word, own_cut_is, own_cut_found}
 use Rattle.mq_law_scenario.proofs.NextLines.{next_read, line_is_refused, next_step_read, step_is_refused}
-use Rattle.mq_law_scenario.specs.Texts.{Said, nothing_said, IsSkipped, Begins, Adds, NoneIs, text_of, IsOpenSection, IsOpenTable, IsNextLine, AreSpoken, IsOpenScript, IsNextStep, AreStepped, AreOpenSteps, IsOpen, Ends, IsEnded, IsBlock, AreBlocks, all_lines, IsText}
+use Rattle.mq_law_scenario.specs.Texts.{Said, nothing_said, IsSkipped, Begins, Adds, NoneIs, text_of, IsOpenText, IsOpenSection, IsOpenTable, IsNextLine, AreSpoken, IsOpenScript, IsNextStep, AreStepped, AreOpenSteps, IsOpen, Ends, IsEnded, IsBlock, AreBlocks, all_lines, IsText}
 use Rattle.mq_law_scenario.specs.Faults.{Stand, IsBadLine, IsCut, HasBadLine, HasManyLines, HasNoEnd, IsTextFault}
 
 abbrev pub ok_reading : Reading → Result Reading ScenarioFault
@@ -108,23 +108,16 @@ with_text (line ∷ lines) o =
     ap (λ (t : List ℕ). t ++ text_of lines) (append_assoc o.text line (10 ∷ [])) ∙ append_assoc o.text (line ++ 10 ∷ []) (text_of lines) in
     with_text lines (text_added line o) ∙ ap (λ (t : List ℕ). record o { text = t }) same
 
-mqsc_all : (lines : List (List ℕ)) (n : ℕ) (o : Opened) (now : Said) (rest : List (List ℕ)) → NoneIs (codes "ENDMQSC") lines → n + length lines ≤ 40000
-    → lines_read (lines ++ rest) (reading n (insides.Mqsc o) now) ≡ lines_read rest (reading (n + length lines) (insides.Mqsc (with_lines lines o)) now)
-mqsc_all [] n o now rest h le = let k : n ≡ n + 0 = omega arith in ap (λ (m : ℕ). lines_read rest (reading m (insides.Mqsc o) now)) k
-mqsc_all (line ∷ lines) n o now rest h le =
-    let k : (n + 1) + length lines ≡ n + length (line ∷ lines) = omega arith in
-    one_more n (insides.Mqsc o) (insides.Mqsc (text_added line o)) now now line (lines ++ rest) (omega arith) (mqsc_more (n + 1) o now line h.0)
-    ∙ mqsc_all lines (n + 1) (text_added line o) now rest h.1 (omega arith)
-    ∙ ap (λ (m : ℕ). lines_read rest (reading m (insides.Mqsc (with_lines lines (text_added line o))) now)) k
-
-rules_all : (lines : List (List ℕ)) (n : ℕ) (o : Opened) (now : Said) (rest : List (List ℕ)) → NoneIs (codes "ENDRULES") lines → n + length lines ≤ 40000
-    → lines_read (lines ++ rest) (reading n (insides.Rules o) now) ≡ lines_read rest (reading (n + length lines) (insides.Rules (with_lines lines o)) now)
-rules_all [] n o now rest h le = let k : n ≡ n + 0 = omega arith in ap (λ (m : ℕ). lines_read rest (reading m (insides.Rules o) now)) k
-rules_all (line ∷ lines) n o now rest h le =
-    let k : (n + 1) + length lines ≡ n + length (line ∷ lines) = omega arith in
-    one_more n (insides.Rules o) (insides.Rules (text_added line o)) now now line (lines ++ rest) (omega arith) (rules_more (n + 1) o now line h.0)
-    ∙ rules_all lines (n + 1) (text_added line o) now rest h.1 (omega arith)
-    ∙ ap (λ (m : ℕ). lines_read rest (reading m (insides.Rules (with_lines lines (text_added line o))) now)) k
+-- lines of text, whatever they are read inside of, till the word that ends them
+module _ (word : List ℕ) (inside : Opened → Inside) (more : (k : ℕ) (o : Opened) (now : Said) (line : List ℕ) → (IsOnly word line → ⊥) → inside_read k line (reading k (inside o) now) ≡ ok_reading (reading k (inside (text_added line o)) now)) where
+  text_all : (lines : List (List ℕ)) (n : ℕ) (o : Opened) (now : Said) (rest : List (List ℕ)) → NoneIs word lines → n + length lines ≤ 40000
+      → lines_read (lines ++ rest) (reading n (inside o) now) ≡ lines_read rest (reading (n + length lines) (inside (with_lines lines o)) now)
+  text_all [] n o now rest h le = let k : n ≡ n + 0 = omega arith in ap (λ (m : ℕ). lines_read rest (reading m (inside o) now)) k
+  text_all (line ∷ lines) n o now rest h le =
+      let k : (n + 1) + length lines ≡ n + length (line ∷ lines) = omega arith in
+      one_more n (inside o) (inside (text_added line o)) now now line (lines ++ rest) (omega arith) (more (n + 1) o now line h.0)
+      ∙ text_all lines (n + 1) (text_added line o) now rest h.1 (omega arith)
+      ∙ ap (λ (m : ℕ). lines_read rest (reading m (inside (with_lines lines (text_added line o))) now)) k
 
 -- ---- the lines of scripts and steps
 
@@ -188,33 +181,29 @@ steps_all (line ∷ lines) n now t rest (inr (step, e, h)) le =
 abbrev ReadOn : ℕ → Said → List (List ℕ) → Inside → Said → List (List ℕ) → Type 0
 ReadOn n before lines i now rest = lines_read (lines ++ rest) (reading n insides.Nothing before) ≡ lines_read rest (reading (n + length lines) i now)
 
+-- a part of text, which so begins
+module _ (part : List ℕ → ℕ → PartLine) (word : List ℕ) (inside : Opened → Inside)
+    (starts : (k : ℕ) (now : Said) (line : List ℕ) (stage : Stage) (label : List ℕ) (manager : ℕ) → Begins now line stage (part label manager) → inside_read k line (reading k insides.Nothing now) ≡ ok_reading (reading k (inside (opened label manager k)) (record now { stage = stage })))
+    (more : (k : ℕ) (o : Opened) (now : Said) (line : List ℕ) → (IsOnly word line → ⊥) → inside_read k line (reading k (inside o) now) ≡ ok_reading (reading k (inside (text_added line o)) now)) where
+  text_read_on : (n : ℕ) (before : Said) (lines : List (List ℕ)) (o : Opened) (now : Said) (rest : List (List ℕ)) → IsOpenText part word n before lines o now → n + length lines ≤ 40000 → ReadOn n before lines (inside o) now rest
+  text_read_on n before lines o now rest h le =
+      let first : Opened = opened h.label h.manager (n + 1) in
+      let next : Said = record before { stage = h.stage } in
+      let most : n + length (h.head ∷ h.inner) ≤ 40000 = subst (λ (l : List (List ℕ)). n + length l ≤ 40000) h.whole le in
+      let k : (n + 1) + length h.inner ≡ n + length (h.head ∷ h.inner) = omega arith in
+      let core : ReadOn n before (h.head ∷ h.inner) (inside (record first { text = text_of h.inner })) next rest =
+      one_more n insides.Nothing (inside first) before next h.head (h.inner ++ rest) (omega arith) (starts (n + 1) before h.head h.stage h.label h.manager h.begins)
+      ∙ text_all word inside more h.inner (n + 1) first next rest h.within (omega arith)
+      ∙ ap (λ (o : Opened). lines_read rest (reading ((n + 1) + length h.inner) (inside o) next)) (with_text h.inner first)
+      ∙ ap (λ (m : ℕ). lines_read rest (reading m (inside (record first { text = text_of h.inner })) next)) k in
+      subst (λ (l : List (List ℕ)). ReadOn n before l (inside o) now rest) (sym h.whole)
+      (subst (λ (u : Opened). ReadOn n before (h.head ∷ h.inner) (inside u) now rest) (sym h.opens) (subst (λ (u : Said). ReadOn n before (h.head ∷ h.inner) (inside (record first { text = text_of h.inner })) u rest) (sym h.is) core))
+
 section_read_on : (n : ℕ) (before : Said) (lines : List (List ℕ)) (o : Opened) (now : Said) (rest : List (List ℕ)) → IsOpenSection n before lines o now → n + length lines ≤ 40000 → ReadOn n before lines (insides.Mqsc o) now rest
-section_read_on n before lines o now rest h le =
-    let first : Opened = opened h.label h.manager (n + 1) in
-    let next : Said = record before { stage = h.stage } in
-    let most : n + length (h.head ∷ h.inner) ≤ 40000 = subst (λ (l : List (List ℕ)). n + length l ≤ 40000) h.whole le in
-    let k : (n + 1) + length h.inner ≡ n + length (h.head ∷ h.inner) = omega arith in
-    let core : ReadOn n before (h.head ∷ h.inner) (insides.Mqsc (record first { text = text_of h.inner })) next rest =
-    one_more n insides.Nothing (insides.Mqsc first) before next h.head (h.inner ++ rest) (omega arith) (begins_read (n + 1) before h.head h.stage (parts.Mqsc h.label h.manager) h.begins)
-    ∙ mqsc_all h.inner (n + 1) first next rest h.within (omega arith)
-    ∙ ap (λ (o : Opened). lines_read rest (reading ((n + 1) + length h.inner) (insides.Mqsc o) next)) (with_text h.inner first)
-    ∙ ap (λ (m : ℕ). lines_read rest (reading m (insides.Mqsc (record first { text = text_of h.inner })) next)) k in
-    subst (λ (l : List (List ℕ)). ReadOn n before l (insides.Mqsc o) now rest) (sym h.whole)
-    (subst (λ (u : Opened). ReadOn n before (h.head ∷ h.inner) (insides.Mqsc u) now rest) (sym h.opens) (subst (λ (u : Said). ReadOn n before (h.head ∷ h.inner) (insides.Mqsc (record first { text = text_of h.inner })) u rest) (sym h.is) core))
+section_read_on = text_read_on (λ label manager. parts.Mqsc label manager) (codes "ENDMQSC") (λ o. insides.Mqsc o) (λ k now line stage label manager b. begins_read k now line stage (parts.Mqsc label manager) b) mqsc_more
 
 table_read_on : (n : ℕ) (before : Said) (lines : List (List ℕ)) (o : Opened) (now : Said) (rest : List (List ℕ)) → IsOpenTable n before lines o now → n + length lines ≤ 40000 → ReadOn n before lines (insides.Rules o) now rest
-table_read_on n before lines o now rest h le =
-    let first : Opened = opened h.label h.manager (n + 1) in
-    let next : Said = record before { stage = h.stage } in
-    let most : n + length (h.head ∷ h.inner) ≤ 40000 = subst (λ (l : List (List ℕ)). n + length l ≤ 40000) h.whole le in
-    let k : (n + 1) + length h.inner ≡ n + length (h.head ∷ h.inner) = omega arith in
-    let core : ReadOn n before (h.head ∷ h.inner) (insides.Rules (record first { text = text_of h.inner })) next rest =
-    one_more n insides.Nothing (insides.Rules first) before next h.head (h.inner ++ rest) (omega arith) (begins_read (n + 1) before h.head h.stage (parts.Rules h.label h.manager) h.begins)
-    ∙ rules_all h.inner (n + 1) first next rest h.within (omega arith)
-    ∙ ap (λ (o : Opened). lines_read rest (reading ((n + 1) + length h.inner) (insides.Rules o) next)) (with_text h.inner first)
-    ∙ ap (λ (m : ℕ). lines_read rest (reading m (insides.Rules (record first { text = text_of h.inner })) next)) k in
-    subst (λ (l : List (List ℕ)). ReadOn n before l (insides.Rules o) now rest) (sym h.whole)
-    (subst (λ (u : Opened). ReadOn n before (h.head ∷ h.inner) (insides.Rules u) now rest) (sym h.opens) (subst (λ (u : Said). ReadOn n before (h.head ∷ h.inner) (insides.Rules (record first { text = text_of h.inner })) u rest) (sym h.is) core))
+table_read_on = text_read_on (λ label manager. parts.Rules label manager) (codes "ENDRULES") (λ o. insides.Rules o) (λ k now line stage label manager b. begins_read k now line stage (parts.Rules label manager) b) rules_more
 
 script_read_on : (n : ℕ) (before : Said) (lines : List (List ℕ)) (s : Script) (now : Said) (rest : List (List ℕ)) → IsOpenScript before lines s now → n + length lines ≤ 40000 → ReadOn n before lines (insides.Script s) now rest
 script_read_on n before lines s now rest h le =

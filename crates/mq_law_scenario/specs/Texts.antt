@@ -79,31 +79,25 @@ NoneIs word (line ∷ lines) = (IsOnly word line → ⊥) × NoneIs word lines
 abbrev pub text_of : List (List ℕ) → List ℕ
 text_of lines = flat_map (λ (line : List ℕ). line ++ 10 ∷ []) lines
 
--- an MQSC section behind so many lines, up to its end
-pub record IsOpenSection (n : ℕ) (before : Said) (lines : List (List ℕ)) (o : Opened) (now : Said) : Type 0 where
+-- a part whose lines are text, behind so many lines, up to its end: the part that its first line begins, and the word that ends it
+pub record IsOpenText (part : List ℕ → ℕ → PartLine) (word : List ℕ) (n : ℕ) (before : Said) (lines : List (List ℕ)) (o : Opened) (now : Said) : Type 0 where
   pub head : List ℕ
   pub inner : List (List ℕ)
   pub stage : Stage
   pub label : List ℕ
   pub manager : ℕ
   pub whole : lines ≡ head ∷ inner
-  pub begins : Begins before head stage (parts.Mqsc label manager)
-  pub within : NoneIs (codes "ENDMQSC") inner
+  pub begins : Begins before head stage (part label manager)
+  pub within : NoneIs word inner
   pub opens : o ≡ record { label = label; manager = manager; first = n + 1; text = text_of inner }
   pub is : now ≡ record { stage = stage; left = before.left; scenario = before.scenario }
 
--- a rules table behind so many lines, up to its end
-pub record IsOpenTable (n : ℕ) (before : Said) (lines : List (List ℕ)) (o : Opened) (now : Said) : Type 0 where
-  pub head : List ℕ
-  pub inner : List (List ℕ)
-  pub stage : Stage
-  pub label : List ℕ
-  pub manager : ℕ
-  pub whole : lines ≡ head ∷ inner
-  pub begins : Begins before head stage (parts.Rules label manager)
-  pub within : NoneIs (codes "ENDRULES") inner
-  pub opens : o ≡ record { label = label; manager = manager; first = n + 1; text = text_of inner }
-  pub is : now ≡ record { stage = stage; left = before.left; scenario = before.scenario }
+-- an MQSC section, and a rules table
+abbrev pub IsOpenSection : ℕ → Said → List (List ℕ) → Opened → Said → Type 0
+IsOpenSection n before lines o now = IsOpenText (λ label manager. parts.Mqsc label manager) (codes "ENDMQSC") n before lines o now
+
+abbrev pub IsOpenTable : ℕ → Said → List (List ℕ) → Opened → Said → Type 0
+IsOpenTable n before lines o now = IsOpenText (λ label manager. parts.Rules label manager) (codes "ENDRULES") n before lines o now
 
 -- the next line of a script: there is room for it, and an MQCONN stands only where the one before it has an MQDISC behind it
 pub record IsNextLine (left : ℕ) (s : Script) (line : List ℕ) (said : ScriptLine) : Type 0 where

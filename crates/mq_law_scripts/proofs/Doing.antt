@@ -14,7 +14,7 @@ use Rattle.mq_spec_node.specs.Scripts.{AreLines, IsDeadline, Memory, fresh, line
 use Rattle.mq_spec_node.specs.Lines.{lines_by, memory_after, memory_by}
 use Rattle.mq_spec_network.specs.Turns.{Network, does}
 use Rattle.mq_spec_network.specs.ScriptLines.{lines_left}
-use Rattle.mq_spec_network.proofs.NextLines.{by_more, plain_call}
+use Rattle.mq_spec_network.proofs.NextLines.{by_more, plain_call, drop_more}
 use Rattle.mq_law_scripts.specs.Fits.{AllLines, IsDone, NoScript}
 
 pub bool_case : (P : Bool → Type 0) → P true → P false → (b : Bool) → P b
@@ -115,11 +115,6 @@ line_all w k p m e d h j q part = by_script (k == j) refl
 length_more : (xs : List Entry) (e : Entry) → length (xs ++ e ∷ []) ≡ suc (length xs)
 length_more [] e = refl
 length_more (x ∷ xs) e = ap suc (length_more xs e)
-
-drop_more : (n : ℕ) (ls : List ScriptLine) → drop (suc n) ls ≡ drop 1 (drop n ls)
-drop_more zero ls = refl
-drop_more (suc n) [] = refl
-drop_more (suc n) (l ∷ ls) = drop_more n ls
 
 pub line_left : (w : Network) (k : ℕ) (p : ScriptPart) (m : ℕ) (e : Entry) → (d : IsDone w k p m e) → lines_left (does m (e ∷ []) w) k p ≡ d.rest
 line_left w k p m e d =

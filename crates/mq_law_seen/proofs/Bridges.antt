@@ -14,17 +14,16 @@ use Rattle.mq_sync.specs.declared.unit.Unit.{Unit as Luw}
 use Rattle.mq_sync.specs.declared.data.InDoubt.{InDoubt}
 use Rattle.mq_calls.specs.declared.state.Batch.{Batch}
 use Rattle.mq_calls.specs.declared.image.Shelf.{Shelf}
-use Rattle.mq_history.specs.declared.story.ManagerPlaces.{ManagerPlaces}
-use Rattle.mq_history.specs.declared.scenario.Scenario.{Scenario}
+use Rattle.mq_law_rows.specs.from_history.{ManagerPlaces, Scenario}
 use Rattle.mq_calls.specs.State.{Plain, Queue, Which, fresh_queue}
 use Rattle.mq_calls.specs.State.Change.{Leave, Hold, Release}
 use Rattle.mq_calls.specs.State.Change.{Place as Places}
 use Rattle.mq_calls.specs.Reads.{stored, queue_in, is_persistent, sender_data, in_doubt_of, batch_of}
 use Rattle.mq_calls.specs.Changes.{lane_of, new_row, set_queue, placed_in, kept_in, held_in, released_in, selects, retag_if, release_if, apply}
-use Rattle.mq_spec_network.specs.Ledger as ledgers
-use Rattle.mq_spec_network.specs.Ledger.{Ledger, nobody, places_or, places_at, change_at, put_on, put_in, leave_queues, is_one_of, take_from, take_everywhere, lose, rows_in, ledger_rows}
-use Rattle.mq_spec_network.specs.Standing.{row_told, rows_told, is_doubted, counts_there, is_held_there, standing_in, standing_of, last_unit, cable_from}
-use Rattle.mq_spec_network.specs.Standing as standings
+use Rattle.mq_law_rows.specs.from_spec_network.Ledger as ledgers
+use Rattle.mq_law_rows.specs.from_spec_network.Ledger.{Ledger, nobody, places_or, places_at, change_at, put_on, put_in, leave_queues, is_one_of, take_from, take_everywhere, lose, rows_in, ledger_rows}
+use Rattle.mq_law_rows.specs.from_spec_network.Standing.{row_told, rows_told, is_doubted, counts_there, is_held_there, standing_in, standing_of, last_unit, cable_from}
+use Rattle.mq_law_rows.specs.from_spec_network.Standing as standings
 use Rattle.mq_law_rows.specs.Families.{put_at}
 use Rattle.mq_law_rows.specs.World.{is_last, away, stands, row_stands, standing}
 use Rattle.mq_law_rows.specs.Kinds.{is_told_row, is_lost, among}

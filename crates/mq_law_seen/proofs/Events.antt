@@ -7,17 +7,16 @@ use Rattle.mq_message.specs.declared.message.Message.{Message}
 use Rattle.mq_queue.specs.declared.row.Row.{Row}
 use Rattle.mq_queue.specs.Rows.{same_ident, insert_row}
 use Rattle.mq_objects.specs.Names.{local_of}
-use Rattle.mq_history.specs.declared.story.ManagerPlaces.{ManagerPlaces}
-use Rattle.mq_history.specs.declared.scenario.Scenario.{Scenario}
+use Rattle.mq_law_rows.specs.from_history.{CableLine, ManagerPlaces, Scenario}
 use Rattle.mq_calls.specs.State.{Plain, Queue}
 use Rattle.mq_calls.specs.State.Change.{Place as Places}
 use Rattle.mq_calls.specs.Reads.{stored, queue_in, sender_in, receiver_in, connection_at, in_doubt_of, batch_of}
 use Rattle.mq_calls.specs.Changes.{lane_of, new_row, apply}
-use Rattle.mq_spec_network.specs.Ledger as ledgers
-use Rattle.mq_spec_network.specs.Ledger.{Ledger, nobody, places_or, places_at, change_at, put_on, put_in, leave_queues, is_one_of, take_from, take_everywhere, lose, rows_in, ledger_rows}
-use Rattle.mq_spec_network.specs.Standing.{row_told, last_unit, cable_from, last_unit_of}
+use Rattle.mq_law_rows.specs.from_spec_network.Ledger as ledgers
+use Rattle.mq_law_rows.specs.from_spec_network.Ledger.{Ledger, nobody, places_or, places_at, change_at, put_on, put_in, leave_queues, is_one_of, take_from, take_everywhere, lose, rows_in, ledger_rows}
+use Rattle.mq_law_rows.specs.from_spec_network.Standing.{row_told, last_unit, cable_from, last_unit_of}
 use Rattle.mq_objects.specs.declared.object.Definitions.{Definitions}
-use Rattle.mq_spec_network.specs.Ledger.{unit_of}
+use Rattle.mq_law_rows.specs.from_spec_network.Ledger.{unit_of}
 use Rattle.mq_law_rows.specs.Families.{put_at}
 use Rattle.mq_law_rows.specs.World.{World, Book}
 use Rattle.mq_law_seen.specs.Seen.{rows_of, held_unit, holds_of, doubt_of, last_of, world_of, book_of}
@@ -25,9 +24,8 @@ use Rattle.mq_law_rows.proofs.Lists.{bool_case, eqb_yes, name_yes}
 use Rattle.mq_calls.specs.State.Change.{CountIdent}
 use Rattle.mq_calls.specs.Condition.{condition}
 use Rattle.mq_calls.specs.Changes.{apply_all, try_if, made_due, depth_type}
-use Rattle.mq_spec_manager.specs.Put.{placed}
-use Rattle.mq_spec_network.specs.Standing.{last_unit_at}
-use Rattle.mq_history.specs.declared.scenario.CableLine.{CableLine}
+use Rattle.mq_law_rows.specs.from_spec_manager.Put.{placed}
+use Rattle.mq_law_rows.specs.from_spec_network.Standing.{last_unit_at}
 use Rattle.mq_law_rows.specs.World.{Ghost, InHand, At, Inv}
 use Rattle.mq_law_rows.specs.Kinds.{after, owned, give, place_row, book_place, with_rows}
 use Rattle.mq_law_seen.specs.Seen.{units_of}

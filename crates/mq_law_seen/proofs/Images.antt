@@ -14,27 +14,26 @@ use Rattle.mq_queue.specs.Rows.{same_ident}
 use Rattle.mq_objects.specs.declared.object.LocalQueue.{LocalQueue}
 use Rattle.mq_objects.specs.Names.{locals_of}
 use Rattle.mq_sync.specs.declared.data.InDoubt.{InDoubt}
-use Rattle.mq_history.specs.declared.history.History.{History}
-use Rattle.mq_history.specs.declared.scenario.Scenario.{Scenario}
+use Rattle.mq_law_rows.specs.from_history.{History, Scenario}
 use Rattle.mq_calls.specs.State.{Plain, Given, Queue, LogState}
 use Rattle.mq_calls.specs.Reads.{queue_in, sender_in, in_doubt_of, is_persistent}
 use Rattle.mq_calls.specs.Images.{numbered, queue_on, begun, raised}
 use Rattle.mq_calls.specs.declared.image.Image.{Image}
 use Rattle.mq_calls.specs.declared.image.Shelf.{Shelf}
 use Rattle.mq_calls.specs.Recovery.{IsListed, IsHeldWell, IsLasting, IsShelf, AreApart, IsImage}
-use Rattle.mq_spec_network.specs.Story.{Mem, Chain}
-use Rattle.mq_spec_network.specs.Promised.{AreDistinct, AreImages}
-use Rattle.mq_spec_manager.specs.Stops.{started_need}
-use Rattle.mq_spec_network.specs.Given.{surroundings}
-use Rattle.mq_spec_network.specs.Apart.{apart_of}
-use Rattle.mq_spec_network.specs.Standing.{node_after, opening_managers, opening_ledger}
+use Rattle.mq_law_rows.specs.from_spec_network.Story.{Mem, Chain}
+use Rattle.mq_law_rows.specs.from_spec_network.Promised.{AreDistinct, AreImages}
+use Rattle.mq_law_rows.specs.from_spec_manager.Stops.{started_need}
+use Rattle.mq_law_rows.specs.from_spec_network.Given.{surroundings}
+use Rattle.mq_law_rows.specs.from_spec_network.Apart.{apart_of}
+use Rattle.mq_law_rows.specs.from_spec_network.Standing.{node_after, opening_managers, opening_ledger}
 use Rattle.mq_law_rows.specs.World.{ident_of, idents_in, LanesRise, Inv}
 use Rattle.mq_law_seen.specs.Opening.{AreNamed}
 use Rattle.mq_law_seen.specs.Seen.{world_of, book_of}
 use Rattle.mq_law_seen.specs.Opening.{IsOpening}
 use Rattle.mq_law_rows.specs.Beginning.{first_owner}
 use Rattle.mq_law_seen.specs.Given.{AreOpenings, is_given, sent_at, source_at, spots_of}
-use Rattle.mq_law_rows.proofs.Lists.{bool_case, true_false, ident_self, name_yes, mem_map, map_mem}
+use Rattle.mq_law_rows.proofs.Lists.{bool_case, true_false, same_self, name_yes, mem_map, map_mem}
 
 -- What holds of all, and of each and all that come later.
 
@@ -99,7 +98,7 @@ rows_distinct (x ∷ xs) h = (
 
 -- the rows of one ident
 clash : (i j : Ident) → i ≡ j → same_ident i j ≡ false → ⊥
-clash i j e f = true_false (sym (ident_self i) ∙ ap (same_ident i) e ∙ f)
+clash i j e f = true_false (sym (same_self i) ∙ ap (same_ident i) e ∙ f)
 
 pub same_row : (rows : List Row) → AreDistinct (idents_in rows) → (h k : Row) → Mem h rows → Mem k rows → h.message.ident ≡ k.message.ident → h ≡ k
 same_row [] c h k n m i = absurd n

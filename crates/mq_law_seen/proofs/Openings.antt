@@ -14,22 +14,21 @@ use Rattle.mq_objects.specs.declared.object.LocalQueue.{LocalQueue}
 use Rattle.mq_objects.specs.Names.{locals_of}
 use Rattle.mq_sync.specs.declared.unit.Unit.{Unit as Luw}
 use Rattle.mq_sync.specs.declared.data.InDoubt.{InDoubt}
-use Rattle.mq_history.specs.declared.story.Apart.{Apart}
-use Rattle.mq_history.specs.declared.scenario.Scenario.{Scenario}
+use Rattle.mq_law_rows.specs.from_history.{Apart, Scenario}
 use Rattle.mq_calls.specs.State.{Plain, Queue}
 use Rattle.mq_calls.specs.Reads.{stored, queue_in, connection_at, sender_data, in_doubt_of, batch_of}
-use Rattle.mq_spec_network.specs.Story.{Mem}
-use Rattle.mq_spec_network.specs.Promised.{AreDistinct}
-use Rattle.mq_spec_network.specs.Ledger.{Users, places_or, users_or, unit_of, rows_in, ledger_rows}
-use Rattle.mq_spec_network.specs.Standing.{standing_in, standing_of, stored_standing, places_of, opening_ledger_of}
-use Rattle.mq_spec_network.specs.Standing as standings
-use Rattle.mq_spec_network.specs.Apart.{or_else, first_of, case, idents_in, row_idents, standing_idents, known, maker, newer_case, ident_case, idents_apart, cables_apart, apart_of}
+use Rattle.mq_law_rows.specs.from_spec_network.Story.{Mem}
+use Rattle.mq_law_rows.specs.from_spec_network.Promised.{AreDistinct}
+use Rattle.mq_law_rows.specs.from_spec_network.Ledger.{Users, places_or, users_or, unit_of, rows_in, ledger_rows}
+use Rattle.mq_law_rows.specs.from_spec_network.Standing.{standing_in, standing_of, stored_standing, places_of, opening_ledger_of}
+use Rattle.mq_law_rows.specs.from_spec_network.Standing as standings
+use Rattle.mq_law_rows.specs.from_spec_network.Apart.{or_else, first_of, case, idents_in, row_idents, standing_idents, known, maker, newer_case, ident_case, idents_apart, cables_apart, apart_of}
 use Rattle.mq_law_rows.specs.World.{World, Book, Tag, tag_of, tag_idents, is_last, row_stands, away, standing, StandsIn, LanesRise, Inv}
 use Rattle.mq_law_rows.specs.World as worlds
 use Rattle.mq_law_seen.specs.Seen.{rows_of, units_of, held_unit, holds_of, world_of, book_of}
 use Rattle.mq_law_rows.specs.Beginning.{Spot, Opens, first_owner}
 use Rattle.mq_law_seen.specs.Given.{AreOpenings, spots_of, given_by, is_given, doubt_queue, source_by, source_at, sent_at}
-use Rattle.mq_law_rows.proofs.Lists.{bool_case, ident_self, name_yes, name_self, mem_map, map_mem, mem_keep, mem_kept, distinct_keep}
+use Rattle.mq_law_rows.proofs.Lists.{bool_case, same_self, name_yes, name_self, mem_map, map_mem, mem_keep, mem_kept, distinct_keep}
 use Rattle.mq_law_seen.proofs.Bridges.{standing_is}
 use Rattle.mq_law_rows.proofs.Opened.{opens}
 
@@ -77,7 +76,7 @@ tally_append t (x ∷ xs) ys = bool_case (t x) (λ z. (if z then 1 + tally t (xs
 tally_one : (i : Ident) (xs : List Ident) → Mem i xs → 1 ≤ tally (same_ident i) xs
 unfolding tally
 tally_one i [] n = absurd n
-tally_one i (x ∷ xs) (inl e) = subst (λ z. 1 ≤ (if z then 1 + tally (same_ident i) xs else tally (same_ident i) xs)) (sym (ap (same_ident i) (sym e) ∙ ident_self i)) (first (tally (same_ident i) xs))
+tally_one i (x ∷ xs) (inl e) = subst (λ z. 1 ≤ (if z then 1 + tally (same_ident i) xs else tally (same_ident i) xs)) (sym (ap (same_ident i) (sym e) ∙ same_self i)) (first (tally (same_ident i) xs))
   where
     first : (a : ℕ) → 1 ≤ 1 + a
     first a = omega arith
@@ -180,7 +179,7 @@ kept_rows : (s : Scenario) (ps : List Plain) (p : Plain) (q : List ℕ) (qs : Li
 kept_rows s ps p q [] = refl
 kept_rows s ps p q (x ∷ qs) = bool_case (bytes_eq q x.name) (λ t. (if t then standing_in s ps p x.rows else rows_in q (map (stored_standing s ps p) qs)) ≡ standing_in s ps p (if t then x else queue_in q qs).rows) (λ e. refl) (λ e. kept_rows s ps p q qs)
 
-mapped_at : {A B : Type 0} (f : A → B) (xs : List A) (m : ℕ) → slice_get (map f xs) m ≡ option_map f (slice_get xs m)
+pub mapped_at : {A B : Type 0} (f : A → B) (xs : List A) (m : ℕ) → slice_get (map f xs) m ≡ option_map f (slice_get xs m)
 mapped_at f [] m = refl
 mapped_at f (x ∷ xs) zero = refl
 mapped_at f (x ∷ xs) (suc m) = mapped_at f xs m

@@ -9,17 +9,17 @@ use Rattle.mq_message.specs.declared.message.Message.{Message}
 use Rattle.mq_queue.specs.declared.row.Row.{Row}
 use Rattle.mq_queue.specs.Rows.{same_ident, insert_row, keep}
 use Rattle.mq_objects.specs.Names.{local_of}
-use Rattle.mq_resolve.specs.declared.route.Route.{Route}
+use Rattle.mq_calls.specs.from_resolve.{Route}
 use Rattle.mq_calls.specs.declared.deltas.Did.{Did}
 use Rattle.mq_calls.specs.declared.image.Shelf.{Shelf}
-use Rattle.mq_history.specs.declared.story.ManagerPlaces.{ManagerPlaces}
+use Rattle.mq_law_rows.specs.from_history.{ManagerPlaces}
 use Rattle.mq_calls.specs.Reads.{is_persistent}
 use Rattle.mq_calls.specs.Changes.{lane_of, new_row}
-use Rattle.mq_spec_manager.specs.Put.{queue_at, dest_at}
-use Rattle.mq_spec_manager.specs.Agents.{names_of, dead_message}
-use Rattle.mq_spec_network.specs.Story.{Mem}
-use Rattle.mq_spec_network.specs.Ledger as ledgers
-use Rattle.mq_spec_network.specs.Ledger.{Ledger, places_or, places_at, users_at, is_one_of, leave_queues, take_everywhere, idents_of, idents_at, placed_idents, is_admitted, own_row, dead_reason, resolved_at, place_received, place_list, when, rows_in, ledger_rows}
+use Rattle.mq_law_rows.specs.from_spec_manager.Put.{queue_at, dest_at}
+use Rattle.mq_law_rows.specs.from_spec_manager.Agents.{names_of, dead_message}
+use Rattle.mq_law_rows.specs.from_spec_network.Story.{Mem}
+use Rattle.mq_law_rows.specs.from_spec_network.Ledger as ledgers
+use Rattle.mq_law_rows.specs.from_spec_network.Ledger.{Ledger, places_or, places_at, users_at, is_one_of, leave_queues, take_everywhere, idents_of, idents_at, placed_idents, is_admitted, own_row, dead_reason, resolved_at, place_received, place_list, when, rows_in, ledger_rows}
 use Rattle.mq_law_rows.specs.Families.{is_here, put_at}
 use Rattle.mq_law_rows.specs.World.{Tag, tag_of, IsPlaced}
 use Rattle.mq_law_rows.specs.Kinds.{among, Landing, place_all}

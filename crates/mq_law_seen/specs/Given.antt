@@ -5,7 +5,7 @@ use Rattle.mq_sync.specs.declared.unit.Unit.{Unit as Luw}
 use Rattle.mq_sync.specs.declared.data.InDoubt.{InDoubt}
 use Rattle.mq_calls.specs.State.{Plain}
 use Rattle.mq_calls.specs.Reads.{sender_data, in_doubt_of}
-use Rattle.mq_spec_network.specs.Apart.{maker}
+use Rattle.mq_law_rows.specs.from_spec_network.Apart.{maker}
 use Rattle.mq_objects.specs.declared.object.LocalQueue.{LocalQueue}
 use Rattle.mq_objects.specs.Names.{locals_of}
 use Rattle.mq_message.specs.declared.place.Holder.TheVariants as holders

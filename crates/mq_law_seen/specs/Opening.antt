@@ -10,12 +10,12 @@ use Rattle.mq_objects.specs.Names.{locals_of}
 use Rattle.mq_sync.specs.declared.data.InDoubt.{InDoubt}
 use Rattle.mq_calls.specs.State.{Plain}
 use Rattle.mq_calls.specs.Reads.{stored, is_persistent, sender_data, in_doubt_of}
-use Rattle.mq_spec_network.specs.Story.{Mem}
-use Rattle.mq_spec_network.specs.Promised.{AreDistinct}
+use Rattle.mq_law_rows.specs.from_spec_network.Story.{Mem}
+use Rattle.mq_law_rows.specs.from_spec_network.Promised.{AreDistinct}
 use Rattle.mq_law_rows.specs.World.{World, Book, Tag, Owner, Unborn, Gone, tag_of, tag_idents, idents_in, standing, claim, StandsIn, LanesRise}
 use Rattle.std.specs.Str.{bytes_eq}
 use Rattle.mq_calls.specs.State.{Queue}
-use Rattle.mq_spec_network.specs.Story.{Chain}
+use Rattle.mq_law_rows.specs.from_spec_network.Story.{Chain}
 use Rattle.std.specs.Prelude.{false}
 
 -- queues with names of their own

@@ -7,11 +7,11 @@ use Rattle.mq_sync.specs.declared.data.InDoubt.{InDoubt}
 use Rattle.mq_sync.specs.Units.{no_unit}
 use Rattle.mq_calls.specs.declared.state.Item.{Item}
 use Rattle.mq_calls.specs.declared.state.Batch.{Batch}
-use Rattle.mq_history.specs.declared.scenario.Scenario.{Scenario}
+use Rattle.mq_law_rows.specs.from_history.{Scenario}
 use Rattle.mq_calls.specs.State.{Plain}
 use Rattle.mq_calls.specs.Reads.{stored, connection_at, sender_data, in_doubt_of, batch_of}
-use Rattle.mq_spec_network.specs.Ledger.{Ledger, ledger_rows, users_at, unit_of}
-use Rattle.mq_spec_network.specs.Standing.{last_unit, cable_from}
+use Rattle.mq_law_rows.specs.from_spec_network.Ledger.{Ledger, ledger_rows, users_at, unit_of}
+use Rattle.mq_law_rows.specs.from_spec_network.Standing.{last_unit, cable_from}
 use Rattle.mq_law_rows.specs.World.{World, Book}
 
 abbrev pub rows_of : List ℕ → Option Plain → List Row

@@ -42,7 +42,7 @@ use Rattle.mq_objects.specs.declared.command.Subject.TheVariants as subjects
 use Rattle.mq_objects.specs.declared.change.ObjectChange.{ObjectChange}
 use Rattle.mq_objects.specs.declared.change.ObjectChange.TheVariants as changes
 use Rattle.mq_resolve.specs.declared.route.PathStep.{PathStep}
-use Rattle.mq_sc_apply.specs.declared.answers.Planned.{Planned}
+use Rattle.mq_spec_manager.specs.from_sc_apply.{ThePlanned as Planned}
 use Rattle.mq_resolve.specs.declared.route.PathStep.TheVariants as steps
 use Rattle.mq_spec_manager.specs.Commands.{follows, renewed, renewed_if, stale_if, switched_if, dropped}
 use Rattle.mq_law_seized.specs.Each.{IsCommon, all_common, is_common, parts_common}

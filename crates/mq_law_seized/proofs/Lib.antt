@@ -7,3 +7,4 @@ pub mod Bare
 pub mod Calling
 pub mod Seizing
 pub mod Commanding
+pub mod from_law_manager

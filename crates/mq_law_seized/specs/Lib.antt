@@ -1,2 +1,3 @@
 pub mod Each
 pub mod Seized
+pub mod from_law_manager

@@ -30,26 +30,26 @@ use Rattle.mq_spec_network.specs.Story.{Mem}
 use Rattle.mq_law_channel.specs.Channel.{Channel, Past}
 use Rattle.mq_law_channel.specs.Following.{Awaited, Placed}
 use Rattle.mq_law_channel.specs.Turns.{receiver_turn, receiver_turned}
-use Rattle.mq_law_rows.specs.Kinds.{among, place_all}
-use Rattle.mq_law_rows.specs.World.{Book, Inv, World, tag_idents}
-use Rattle.mq_law_rows.proofs.Lists.{bool_case, eqb_yes, is_false}
-use Rattle.mq_law_seen.specs.Seen.{book_of, world_of}
+use Rattle.mq_law_turns.specs.from_law_rows.Kinds.{among, place_all}
+use Rattle.mq_law_turns.specs.from_law_rows.World.{Book, Inv, World, tag_idents}
+use Rattle.mq_law_turns.proofs.from_law_rows.Lists.{bool_case, eqb_yes, is_false}
+use Rattle.mq_law_turns.specs.from_law_seen.Seen.{book_of, world_of}
 use Rattle.mq_law_manager.specs.Facts.{IsSound}
-use Rattle.mq_law_log.proofs.Landings.{LandedSteady, landed_steady}
-use Rattle.mq_law_log.proofs.Steady.{steady_append}
+use Rattle.mq_law_found.proofs.from_law_log.Landings.{LandedSteady, landed_steady}
+use Rattle.mq_law_found.proofs.from_law_log.Steady.{steady_append}
 use Rattle.mq_law_found.specs.Finds.{posted_again, since}
 use Rattle.mq_law_found.proofs.Again.{steady_lasts}
 use Rattle.mq_law_found.proofs.Finding.{moments_back, timed_then, told_then}
 use Rattle.mq_law_found.proofs.Going.{left_row}
-use Rattle.mq_law_events.specs.Tied.{IsNext, IsTold, connections_told}
-use Rattle.mq_law_events.proofs.Telling.{else_changed, here_changed}
-use Rattle.mq_law_batches.proofs.Wording.{stays}
+use Rattle.mq_law_found.specs.from_law_events.Tied.{IsNext, IsTold, connections_told}
+use Rattle.mq_law_found.proofs.from_law_events.Telling.{else_changed, here_changed}
+use Rattle.mq_law_turns.proofs.from_law_batches.Wording.{stays}
 use Rattle.mq_law_node.specs.Ends.{stamped}
-use Rattle.mq_law_receipts.specs.Receipts.{Comes, IsAwaitedAt, IsCabled, IsShadow}
-use Rattle.mq_law_receipts.proofs.Knowing.{idents_tagged}
-use Rattle.mq_law_receipts.proofs.Landing.{Lands}
-use Rattle.mq_law_receipts.proofs.Losing.{posts_alike, posts_found}
-use Rattle.mq_law_receipts.proofs.Receiving.{IsDone, done_beside, lands_then, posts, receipt_keeps, receipt_told}
+use Rattle.mq_law_turns.specs.from_law_receipts.Receipts.{Comes, IsAwaitedAt, IsCabled, IsShadow}
+use Rattle.mq_law_turns.proofs.from_law_receipts.Knowing.{idents_tagged}
+use Rattle.mq_law_turns.proofs.from_law_receipts.Landing.{Lands}
+use Rattle.mq_law_turns.proofs.from_law_receipts.Losing.{posts_alike, posts_found}
+use Rattle.mq_law_turns.proofs.from_law_receipts.Receiving.{IsDone, done_beside, lands_then, posts, receipt_keeps, receipt_told}
 use Rattle.mq_law_turns.specs.Turns.{Found, IsHome, IsJoint, Scene, Taken, world_in}
 use Rattle.mq_law_turns.proofs.Taking.{found_at, found_commits}
 use Rattle.mq_law_stopped.specs.Noted.{CommitFound, CommitNote, Stays_, left_as, noted_of}

@@ -11,10 +11,10 @@ use Rattle.mq_spec_manager.specs.Stops.{redone}
 use Rattle.mq_spec_manager.specs.Agents.{harden_part}
 use Rattle.mq_spec_network.specs.Ledger.{change_at}
 use Rattle.mq_law_channel.specs.Channel.{Channel, Past}
-use Rattle.mq_law_rows.specs.World.{World}
-use Rattle.mq_law_seen.specs.Seen.{world_of}
-use Rattle.mq_law_events.specs.Tied.{IsNext}
-use Rattle.mq_law_batches.proofs.Wording.{words}
+use Rattle.mq_law_turns.specs.from_law_rows.World.{World}
+use Rattle.mq_law_turns.specs.from_law_seen.Seen.{world_of}
+use Rattle.mq_law_found.specs.from_law_events.Tied.{IsNext}
+use Rattle.mq_law_turns.proofs.from_law_batches.Wording.{words}
 use Rattle.mq_law_node.specs.Moves.{far_does}
 use Rattle.mq_law_turns.specs.Turns.{IsJoint, Scene, Taken, world_in}
 use Rattle.mq_law_turns.proofs.Parts.{next_mid, world_behind}

@@ -28,17 +28,17 @@ use Rattle.mq_spec_manager.specs.Agents.{harden_part, held_rows, prepared_change
 use Rattle.mq_spec_network.specs.Ledger as ledgers
 use Rattle.mq_spec_network.specs.Ledger.{Ledger}
 use Rattle.mq_spec_network.specs.Order.{unit_received}
-use Rattle.mq_law_rows.proofs.Lists.{bool_case}
+use Rattle.mq_law_turns.proofs.from_law_rows.Lists.{bool_case}
 use Rattle.mq_law_channel.proofs.Told.{and_both}
 use Rattle.mq_law_manager.specs.Facts.{IsSound}
 use Rattle.mq_law_manager.proofs.Untouched.{part_given}
-use Rattle.mq_law_log.specs.Restarts.{IsHarmless}
-use Rattle.mq_law_log.proofs.Hardenings.{harden_harmless}
-use Rattle.mq_law_log.proofs.Stops.{frozen_lasts}
+use Rattle.mq_law_found.specs.from_law_log.Restarts.{IsHarmless}
+use Rattle.mq_law_found.proofs.from_law_log.Hardenings.{harden_harmless}
+use Rattle.mq_law_found.proofs.from_law_log.Stops.{frozen_lasts}
 use Rattle.mq_law_found.specs.Finds.{posted_again, since}
 use Rattle.mq_law_found.proofs.Again.{rises}
 use Rattle.mq_law_found.proofs.Finding.{moments_back}
-use Rattle.mq_law_batches.specs.Releases.{IsWord}
+use Rattle.mq_law_turns.specs.from_law_batches.Releases.{IsWord}
 use Rattle.mq_law_stopped.proofs.Channels.{all_after}
 use Rattle.mq_law_stopped.specs.Noted.{IsLeft, IsOfEnd, IsOne_, Stays_, is_calm, all_calm, left_as, noted_of}
 

@@ -6,3 +6,7 @@ pub mod Leaving
 pub mod Sparing
 pub mod Noting
 pub mod Committing
+pub mod from_law_batches
+pub mod from_law_found
+pub mod from_law_receipts
+pub mod from_law_turns

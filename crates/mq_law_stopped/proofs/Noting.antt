@@ -36,7 +36,7 @@ use Rattle.mq_law_channel.specs.Following.{Said}
 use Rattle.mq_law_channel.specs.Turns.{ReceiverTurn, SeenIn, SenderTurn, receiver_does, receiver_turned}
 use Rattle.mq_law_channel.proofs.Following.{said}
 use Rattle.mq_law_channel.proofs.Told.{doubt_is}
-use Rattle.mq_law_rows.proofs.Lists.{bool_case}
+use Rattle.mq_law_turns.proofs.from_law_rows.Lists.{bool_case}
 use Rattle.mq_law_node.specs.Data.{sends_at}
 use Rattle.mq_law_node.specs.Ends.{SendsAs, Where, out_of, prepare_out, place_out, receiver_of, receiver_out, sender_of, stamped, taking_turn, turn_of}
 use Rattle.mq_law_node.specs.Moves.{NearStep}

@@ -37,12 +37,12 @@ use Rattle.mq_law_channel.proofs.Following.{said}
 use Rattle.mq_law_channel.proofs.Core.{unit_eq}
 use Rattle.mq_law_channel.proofs.Sending.{binding_is, waiting_is}
 use Rattle.mq_law_channel.proofs.Told.{ack_told, err_told, unit_no, unit_yes}
-use Rattle.mq_law_rows.proofs.Lists.{bool_case, true_false}
-use Rattle.mq_law_seen.specs.Seen.{rows_of, world_of}
+use Rattle.mq_law_turns.proofs.from_law_rows.Lists.{bool_case, true_false}
+use Rattle.mq_law_turns.specs.from_law_seen.Seen.{rows_of, world_of}
 use Rattle.mq_law_manager.proofs.Receiving.{log_aside}
-use Rattle.mq_law_events.specs.Tied.{IsNext}
-use Rattle.mq_law_batches.specs.Releases.{IsWord, settled_changes}
-use Rattle.mq_law_batches.proofs.Wording.{Stays, words}
+use Rattle.mq_law_found.specs.from_law_events.Tied.{IsNext}
+use Rattle.mq_law_turns.specs.from_law_batches.Releases.{IsWord, settled_changes}
+use Rattle.mq_law_turns.proofs.from_law_batches.Wording.{Stays, words}
 use Rattle.mq_law_node.specs.Ends.{Guard}
 use Rattle.mq_law_node.specs.Moves.{NearMay, NearStep, near_past}
 use Rattle.mq_law_node.proofs.Operators.{resting_apart}

@@ -12,7 +12,7 @@ use Rattle.mq_calls.specs.declared.agents.Note.TheVariants as notes
 use Rattle.mq_calls.specs.State.{Change, Noted, Plain}
 use Rattle.mq_spec_manager.specs.Agents.{harden_part}
 use Rattle.mq_law_channel.specs.Channel.{Channel}
-use Rattle.mq_law_batches.specs.Releases.{IsWord, settled_changes}
+use Rattle.mq_law_turns.specs.from_law_batches.Releases.{IsWord, settled_changes}
 use Rattle.mq_law_node.specs.Data.{receiver_by_all, sender_by_all}
 use Rattle.mq_law_node.specs.Moves.{NearStep}
 use Rattle.mq_law_stopped.specs.Noted.{SenderKind}

@@ -52,14 +52,14 @@ use Rattle.mq_law_node.specs.Ends.{sender_of, stamped, told_receives, told_sends
 use Rattle.mq_law_node.specs.Moves.{FarStep, NearMay, NearStep, far_does, near_does, near_past}
 use Rattle.mq_law_node.specs.Nodes.{FarMayLater}
 use Rattle.mq_law_found.specs.Finds.{posted_again, since}
-use Rattle.mq_law_batches.specs.Releases.{IsWord, settled_changes}
-use Rattle.mq_law_receipts.specs.Receipts.{Comes}
+use Rattle.mq_law_turns.specs.from_law_batches.Releases.{IsWord, settled_changes}
+use Rattle.mq_law_turns.specs.from_law_receipts.Receipts.{Comes}
 use Rattle.mq_law_turns.specs.Agreed.{IsToldOf}
 use Rattle.mq_law_turns.specs.Turns.{IsJoint, Scene, Taken, TurnedBy, world_in}
-use Rattle.mq_law_events.specs.Tied.{IsFresh, IsNext, IsTold}
-use Rattle.mq_law_rows.specs.Kinds.{Landing, among, place_all}
-use Rattle.mq_law_rows.specs.World.{World, tag_idents}
-use Rattle.mq_law_seen.specs.Seen.{book_of, world_of}
+use Rattle.mq_law_found.specs.from_law_events.Tied.{IsFresh, IsNext, IsTold}
+use Rattle.mq_law_turns.specs.from_law_rows.Kinds.{Landing, among, place_all}
+use Rattle.mq_law_turns.specs.from_law_rows.World.{World, tag_idents}
+use Rattle.mq_law_turns.specs.from_law_seen.Seen.{book_of, world_of}
 
 -- a turn of a sender that came to this
 pub record IsTurn (t : SenderTurn) (d : SenderDoes) (x : Channel) : Type 0 where

@@ -12,10 +12,10 @@ use Rattle.mq_calls.specs.State.{Plain}
 use Rattle.mq_spec_network.specs.Story.{Line, Mem}
 use Rattle.mq_spec_network.specs.Standing.{opening_managers}
 use Rattle.mq_spec_network.specs.Conflict.{Deed, deeds, is_committed, agrees, conflict_of, conflict_in, or_else, first_conflict, NoConflict}
-use Rattle.mq_law_rows.specs.World.{Ghost}
-use Rattle.mq_law_rows.specs.Kinds.{AllBorne}
+use Rattle.mq_law_seen.specs.from_law_rows.World.{Ghost}
+use Rattle.mq_law_seen.specs.from_law_rows.Kinds.{AllBorne}
 use Rattle.mq_law_story.specs.Told.{IsTold}
-use Rattle.mq_law_rows.proofs.Lists.{true_false, is_false}
+use Rattle.mq_law_seen.proofs.from_law_rows.Lists.{true_false, is_false}
 
 rest_none : (a rest : Option Conflict) → or_else a rest ≡ None → (a ≡ None) × (rest ≡ None)
 rest_none None rest e = (refl, e)

@@ -6,14 +6,14 @@ use Rattle.mq_history.specs.declared.history.History.{History}
 use Rattle.mq_history.specs.declared.scenario.Scenario.{Scenario}
 use Rattle.mq_calls.specs.State.{Plain}
 use Rattle.mq_spec_network.specs.Promised.{AreImages}
-use Rattle.mq_spec_manager.specs.Stops.{started_need}
+use Rattle.mq_spec_network.specs.from_spec_manager.Stops.{started_need}
 use Rattle.mq_spec_network.specs.Given.{surroundings}
 use Rattle.mq_spec_network.specs.Apart.{apart_of}
 use Rattle.mq_spec_network.specs.Standing.{node_after, opening_managers, opening_ledger}
-use Rattle.mq_law_rows.specs.World.{Inv, is_last}
+use Rattle.mq_law_seen.specs.from_law_rows.World.{Inv, is_last}
 use Rattle.mq_law_seen.specs.Seen.{world_of, book_of}
 use Rattle.mq_law_seen.specs.Opening.{IsOpening}
-use Rattle.mq_law_rows.specs.Beginning.{first_owner}
+use Rattle.mq_law_seen.specs.from_law_rows.Beginning.{first_owner}
 use Rattle.mq_law_seen.specs.Given.{AreOpenings, is_given, sent_at, source_at, spots_of}
 use Rattle.mq_law_story.proofs.Weaving.{manager_at}
 use Rattle.mq_law_seen.proofs.Openings.{openings_have_the_facts}

@@ -14,12 +14,12 @@ use Rattle.mq_spec_network.specs.Conflict.{NoConflict}
 use Rattle.mq_spec_network.specs.Ledger.{ledger, ledger_rows}
 use Rattle.mq_spec_network.specs.Standing.{rows_told, standing_in, standing_of, managers_at, opening_ledger}
 use Rattle.mq_spec_network.specs.Standing as standings
-use Rattle.mq_law_rows.specs.World.{Book, Ghost, ident_of, idents_in, standing, Inv}
+use Rattle.mq_law_seen.specs.from_law_rows.World.{Book, Ghost, ident_of, idents_in, standing, Inv}
 use Rattle.mq_law_seen.specs.Opening.{AreNamed}
 use Rattle.mq_law_story.specs.Told.{IsTold}
 use Rattle.mq_law_seen.specs.Seen.{world_of, book_of}
-use Rattle.mq_law_rows.proofs.Lists.{true_false, is_false, name_yes, name_self, mem_append, map_mem, distinct_append}
-use Rattle.mq_law_rows.proofs.Closing.{rows_stand, one_queue, once_there}
+use Rattle.mq_law_seen.proofs.from_law_rows.Lists.{true_false, is_false, name_yes, name_self, mem_append, map_mem, distinct_append}
+use Rattle.mq_law_seen.proofs.from_law_rows.Closing.{rows_stand, one_queue, once_there}
 use Rattle.mq_law_seen.proofs.Bridges.{standing_is}
 use Rattle.mq_law_story.proofs.Agreeing.{none_open}
 

@@ -6,11 +6,11 @@ use Rattle.mq_sync.specs.declared.unit.Unit.{Unit as Luw}
 use Rattle.mq_sync.specs.Units.{Below, Upto, same_unit, unit_named}
 use Rattle.mq_law_channel.specs.Channel.{Channel, Past, Facts}
 use Rattle.mq_law_channel.specs.Following.{Placed, Awaited, WasCommitted, WasNot}
-use Rattle.mq_law_rows.specs.World.{World, Book, Ghost, is_last, away, Inv}
-use Rattle.mq_law_rows.specs.Kinds.{Commits}
+use Rattle.mq_law_seen.specs.from_law_rows.World.{World, Book, Ghost, is_last, away, Inv}
+use Rattle.mq_law_seen.specs.from_law_rows.Kinds.{Commits}
 use Rattle.mq_law_story.specs.Needs.{letter_tag, IsTied}
-use Rattle.mq_law_rows.proofs.Lists.{bool_case}
-use Rattle.mq_law_rows.proofs.Settling.{commits_held, commits_operated}
+use Rattle.mq_law_seen.proofs.from_law_rows.Lists.{bool_case}
+use Rattle.mq_law_seen.proofs.from_law_rows.Settling.{commits_held, commits_operated}
 
 below_not : (u v : Luw) → Below u v → u ≡ v → ⊥
 below_not u v (inl lt) e = let s : u.session ≡ v.session = ap (λ (x : Luw). x.session) e in omega arith

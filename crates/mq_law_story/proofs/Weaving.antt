@@ -14,15 +14,15 @@ use Rattle.mq_history.specs.declared.calls.Entry.{Entry}
 use Rattle.mq_history.specs.declared.history.History.{History}
 use Rattle.mq_history.specs.declared.scenario.Scenario.{Scenario}
 use Rattle.mq_calls.specs.State.{Plain}
-use Rattle.mq_spec_node.specs.Node.{Node}
-use Rattle.mq_spec_node.specs.Replays.{after, done_by, opening_node, Tells, Follows}
+use Rattle.mq_spec_network.specs.from_spec_node.Node.{Node}
+use Rattle.mq_spec_network.specs.from_spec_node.Replays.{after, done_by, opening_node, Tells, Follows}
 use Rattle.mq_spec_network.specs.Story.{Line, Mem, Earlier, Ranked, part, entries_or, entries_at, IsStory}
 use Rattle.mq_spec_network.specs.Given.{surroundings}
 use Rattle.mq_spec_network.specs.Ledger.{Ledger, ledger, posted}
 use Rattle.mq_spec_network.specs.Standing.{node_after, managers_from, managers_at}
 use Rattle.mq_spec_network.specs.Cables.{Lying, whole, spoiled, offered_if, offered_by, pops_item, Takes, Carries}
-use Rattle.mq_spec_node.specs.Doers.{by}
-use Rattle.mq_law_rows.proofs.Lists.{true_false, bool_case, eqb_yes, eqb_self, mem_append, map_mem}
+use Rattle.mq_spec_network.specs.from_spec_node.Doers.{by}
+use Rattle.mq_law_seen.proofs.from_law_rows.Lists.{true_false, bool_case, eqb_yes, eqb_self, mem_append, map_mem}
 
 -- One entry more
 

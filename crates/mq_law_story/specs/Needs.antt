@@ -4,7 +4,7 @@ use Rattle.std.specs.Prelude.{ℕ, ◌≡◌, ◌≢◌, true, false, List, Some
 use Rattle.mq_sync.specs.declared.unit.Unit.{Unit as Luw}
 use Rattle.mq_law_channel.specs.Facts.{Letter}
 use Rattle.mq_law_channel.specs.Channel.{Channel, Past}
-use Rattle.mq_law_rows.specs.World.{World, Ghost, Tag, tag_of}
+use Rattle.mq_law_seen.specs.from_law_rows.World.{World, Ghost, Tag, tag_of}
 
 abbrev pub letter_tag : Letter → Tag
 letter_tag l = tag_of l.message

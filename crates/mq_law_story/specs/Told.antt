@@ -8,7 +8,7 @@ use Rattle.mq_history.specs.declared.scenario.Scenario.{Scenario}
 use Rattle.mq_spec_network.specs.Story.{Line, Mem}
 use Rattle.mq_spec_network.specs.Standing.{opening_managers}
 use Rattle.mq_spec_network.specs.Conflict.{deeds, is_committed}
-use Rattle.mq_law_rows.specs.World.{Ghost}
+use Rattle.mq_law_seen.specs.from_law_rows.World.{Ghost}
 
 -- What the proof follows of a RESOLVE COMMIT is told in the prefix, and ends with its receiver's commit: so none is open
 -- where there is no conflict.

@@ -25,7 +25,7 @@ use Rattle.mq_spec_network.specs.Story.{Line, Mem}
 use Rattle.mq_law_channel.specs.Channel.{Channel, Past}
 use Rattle.mq_law_channel.specs.Turns.{ReceiverTurn, SenderTurn, emptied, past_resolved, past_turned, receiver_does, receiver_turn, receiver_turned, released, resolved, sender_does, sender_past, sender_turn, sender_turned}
 use Rattle.mq_law_channel.proofs.Told.{unit_self, unit_yes}
-use Rattle.mq_law_rows.proofs.Lists.{bool_case, is_false, name_self, true_false}
+use Rattle.mq_law_story.proofs.from_law_rows.Lists.{bool_case, is_false, name_self, true_false}
 use Rattle.mq_law_story.proofs.Agreeing.{backout_borne}
 use Rattle.mq_law_turns.specs.Agreed.{IsToldOf, TellsCommit}
 

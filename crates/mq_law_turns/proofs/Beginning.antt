@@ -14,8 +14,8 @@ use Rattle.mq_spec_network.specs.Standing.{cable_named, last_unit, last_unit_at,
 use Rattle.mq_spec_network.specs.Story.{Chain, Mem}
 use Rattle.mq_law_channel.specs.Channel.{Channel, Past}
 use Rattle.mq_law_channel.proofs.Told.{unit_self}
-use Rattle.mq_law_rows.proofs.Lists.{is_false, mem_map, name_self, name_yes, true_false}
-use Rattle.mq_law_seen.proofs.Images.{pairs_chain}
+use Rattle.mq_law_story.proofs.from_law_rows.Lists.{is_false, mem_map, name_self, name_yes, true_false}
+use Rattle.mq_law_story.proofs.from_law_seen.Images.{pairs_chain}
 use Rattle.mq_law_turns.specs.Agreed.{IsToldOf}
 
 abbrev pub channel_named : CableLine → List ℕ

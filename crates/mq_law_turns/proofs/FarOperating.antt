@@ -17,9 +17,9 @@ use Rattle.mq_sync.specs.Settlement.{receiver_or}
 use Rattle.mq_law_channel.specs.Channel.{Channel, Past}
 use Rattle.mq_law_channel.specs.Turns.{receiver_numbered, receiver_started, receiver_stopped}
 use Rattle.mq_law_channel.specs.Turns as channels
-use Rattle.mq_law_rows.proofs.Lists.{bool_case}
-use Rattle.mq_law_seen.specs.Seen.{book_of, world_of}
-use Rattle.mq_law_events.specs.Tied.{IsNext}
+use Rattle.mq_law_story.proofs.from_law_rows.Lists.{bool_case}
+use Rattle.mq_law_story.specs.from_law_seen.Seen.{book_of, world_of}
+use Rattle.mq_law_batches.specs.from_law_events.Tied.{IsNext}
 use Rattle.mq_law_batches.proofs.Wording.{stays, words}
 use Rattle.mq_law_node.specs.Ends.{receiver_of}
 use Rattle.mq_law_turns.specs.Turns.{IsAtFar, Scene, Taken}

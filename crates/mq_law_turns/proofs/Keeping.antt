@@ -9,13 +9,13 @@ use Rattle.mq_calls.specs.Reads.{batch_of, in_doubt_of, receiver_in, sender_in}
 use Rattle.mq_spec_network.specs.Ledger.{Ledger}
 use Rattle.mq_spec_network.specs.Standing.{last_unit_of}
 use Rattle.mq_law_channel.specs.Channel.{Channel, Past}
-use Rattle.mq_law_rows.specs.Families.{is_here}
-use Rattle.mq_law_rows.specs.World.{Book, Ghost, World}
-use Rattle.mq_law_rows.proofs.Lists.{bool_case, eqb_yes}
-use Rattle.mq_law_seen.specs.Seen.{book_of, doubt_of, held_unit, holds_of, world_of}
-use Rattle.mq_law_events.specs.Local.{Moved, with_owner}
-use Rattle.mq_law_events.specs.Tied.{Follow, IsNext, IsSame, IsTold}
-use Rattle.mq_law_events.proofs.Stepping.{follows_on}
+use Rattle.mq_law_story.specs.from_law_rows.Families.{is_here}
+use Rattle.mq_law_story.specs.from_law_rows.World.{Book, Ghost, World}
+use Rattle.mq_law_story.proofs.from_law_rows.Lists.{bool_case, eqb_yes}
+use Rattle.mq_law_story.specs.from_law_seen.Seen.{book_of, doubt_of, held_unit, holds_of, world_of}
+use Rattle.mq_law_batches.specs.from_law_events.Local.{Moved, with_owner}
+use Rattle.mq_law_batches.specs.from_law_events.Tied.{Follow, IsNext, IsSame, IsTold}
+use Rattle.mq_law_batches.proofs.from_law_events.Stepping.{follows_on}
 use Rattle.mq_law_batches.proofs.Releasing.{IsNear, lasts}
 use Rattle.mq_law_story.specs.Needs.{IsTied}
 use Rattle.mq_law_turns.specs.Turns.{AreBegun, IsJoint, Scene, Taken, TurnedBy, world_in}

@@ -11,3 +11,9 @@ pub mod Reading
 pub mod Agreeing
 pub mod OperatorSounds
 pub mod Beginning
+pub mod from_law_batches
+pub mod from_law_events
+pub mod from_law_receipts
+pub mod from_law_rows
+pub mod from_law_seen
+pub mod from_law_story

@@ -28,13 +28,13 @@ use Rattle.mq_law_channel.specs.Facts.{Letter, Near, now}
 use Rattle.mq_law_channel.specs.Channel.{Channel, Fits, Past}
 use Rattle.mq_law_channel.specs.Turns.{emptied, past_resolved, released, resolved, sender_numbered, sender_started, sender_stopped, sender_timed_out, undone}
 use Rattle.mq_law_channel.proofs.Sending.{not_forced}
-use Rattle.mq_law_rows.specs.Families.{is_here}
-use Rattle.mq_law_rows.specs.World.{Ghost}
-use Rattle.mq_law_rows.specs.Kinds.{after, freed, ghost_force}
-use Rattle.mq_law_rows.proofs.Lists.{bool_case, here_self, name_self, true_false}
+use Rattle.mq_law_story.specs.from_law_rows.Families.{is_here}
+use Rattle.mq_law_story.specs.from_law_rows.World.{Ghost}
+use Rattle.mq_law_story.specs.from_law_rows.Kinds.{after, freed, ghost_force}
+use Rattle.mq_law_story.proofs.from_law_rows.Lists.{bool_case, here_self, name_self, true_false}
 use Rattle.mq_law_channel.proofs.Told.{unit_no, unit_self, unit_yes}
-use Rattle.mq_law_seen.specs.Seen.{doubt_of, holds_of, last_of, world_of}
-use Rattle.mq_law_events.specs.Tied.{IsNext}
+use Rattle.mq_law_story.specs.from_law_seen.Seen.{doubt_of, holds_of, last_of, world_of}
+use Rattle.mq_law_batches.specs.from_law_events.Tied.{IsNext}
 use Rattle.mq_law_batches.specs.Releases.{release_changes, settled_changes}
 use Rattle.mq_law_batches.proofs.Settling.{backs_out, drops, forces, settled_doubts, settled_holds}
 use Rattle.mq_law_batches.proofs.Wording.{Stays, stays, words}

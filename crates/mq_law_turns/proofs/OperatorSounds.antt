@@ -25,7 +25,7 @@ use Rattle.mq_spec_node.specs.Node.{ChannelEnd, Node, ReceiverEnd, SenderEnd, se
 use Rattle.mq_spec_node.specs.Node.ChannelEnd.{Receives, Sends}
 use Rattle.mq_spec_node.specs.Deeds.{Deed, parts_of}
 use Rattle.mq_spec_node.specs.Operators.{close_open, end_here, is_bad_number, is_in_doubt, is_open, limits_here, operate, operate_up, operated, refused_or, reset_end, resolve_doubt, resolve_end, start_end, start_seized, stop_end}
-use Rattle.mq_law_rows.proofs.Lists.{bool_case}
+use Rattle.mq_law_story.proofs.from_law_rows.Lists.{bool_case}
 use Rattle.mq_law_manager.specs.Facts.{IsSound}
 use Rattle.mq_law_manager.specs.Kept.{AllKeep, StepKeeps}
 use Rattle.mq_law_manager.proofs.Batches.{harden_keeps}

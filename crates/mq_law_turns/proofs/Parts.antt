@@ -20,13 +20,13 @@ use Rattle.mq_spec_node.specs.Deeds.{parts_of}
 use Rattle.mq_spec_node.specs.Senders.{leave_if_stopped}
 use Rattle.mq_law_channel.specs.Channel.{Channel, Past}
 use Rattle.mq_law_channel.specs.Facts.{now}
-use Rattle.mq_law_rows.specs.Families.{is_here}
-use Rattle.mq_law_rows.specs.World.{Ghost, Inv, World}
-use Rattle.mq_law_rows.proofs.Lists.{bool_case, eqb_yes}
-use Rattle.mq_law_seen.specs.Seen.{doubt_of, held_unit, holds_of, last_of, world_of}
+use Rattle.mq_law_story.specs.from_law_rows.Families.{is_here}
+use Rattle.mq_law_story.specs.from_law_rows.World.{Ghost, Inv, World}
+use Rattle.mq_law_story.proofs.from_law_rows.Lists.{bool_case, eqb_yes}
+use Rattle.mq_law_story.specs.from_law_seen.Seen.{doubt_of, held_unit, holds_of, last_of, world_of}
 use Rattle.mq_law_manager.proofs.Receiving.{log_aside}
-use Rattle.mq_law_events.specs.Tied.{IsNext}
-use Rattle.mq_law_events.proofs.Telling.{else_changed, here_changed}
+use Rattle.mq_law_batches.specs.from_law_events.Tied.{IsNext}
+use Rattle.mq_law_batches.proofs.from_law_events.Telling.{else_changed, here_changed}
 use Rattle.mq_law_batches.proofs.Releasing.{IsNear, lasts}
 use Rattle.mq_law_batches.proofs.Wording.{Stays, stays}
 use Rattle.mq_law_story.specs.Needs.{letter_tag}

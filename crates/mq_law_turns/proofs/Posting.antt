@@ -44,12 +44,12 @@ use Rattle.mq_spec_manager.specs.Get.{expired_parts, idents_of}
 use Rattle.mq_law_channel.proofs.Sending.{idle_is}
 use Rattle.mq_law_manager.specs.Facts.{IsSound, ident_of}
 use Rattle.mq_law_manager.proofs.Removals.{differ_filter, mem_filter}
-use Rattle.mq_law_events.specs.Tied.{Follow, IsFresh, IsTold}
-use Rattle.mq_law_events.proofs.Getting.{expired_follow}
-use Rattle.mq_law_events.proofs.Taking.{removed_all}
+use Rattle.mq_law_batches.specs.from_law_events.Tied.{Follow, IsFresh, IsTold}
+use Rattle.mq_law_batches.proofs.from_law_events.Getting.{expired_follow}
+use Rattle.mq_law_batches.proofs.from_law_events.Taking.{removed_all}
 use Rattle.mq_law_turns.proofs.Sending.{free_by}
 use Rattle.mq_spec_node.specs.Senders.{doubted, leave_if_stopped, prepare_deed, sender_deed, sender_deed_by, settle_parts, settle_parts_if}
-use Rattle.mq_law_rows.proofs.Lists.{bool_case, true_false}
+use Rattle.mq_law_story.proofs.from_law_rows.Lists.{bool_case, true_false}
 use Rattle.mq_law_turns.specs.Turns.{EachFollowed, EachPosted, is_expiry}
 
 -- an entry that the ledger passes over

@@ -47,12 +47,12 @@ use Rattle.mq_spec_node.specs.Deeds.{parts_of}
 use Rattle.mq_spec_node.specs.Receivers.{place_deed, receiver_deed_by}
 use Rattle.mq_spec_node.specs.Senders.{leave_if_stopped, prepare_deed, sender_deed_by, settle_parts, settle_parts_if}
 use Rattle.mq_law_channel.specs.Facts.{Letter, Mem}
-use Rattle.mq_law_seized.proofs.Each.{all_behind, kept_behind, parts_behind as behind, parts_keep}
-use Rattle.mq_law_rows.proofs.Lists.{bool_case, mem_insert, mem_keep, mem_retag, true_false}
+use Rattle.mq_law_node.proofs.from_law_seized.Each.{all_behind, kept_behind, parts_behind as behind, parts_keep}
+use Rattle.mq_law_story.proofs.from_law_rows.Lists.{bool_case, mem_insert, mem_keep, mem_retag, true_false}
 use Rattle.mq_law_manager.specs.Facts.{IsSound}
 use Rattle.mq_law_manager.proofs.Lists.{distinct_of}
 use Rattle.mq_law_manager.proofs.Named.{name_yes}
-use Rattle.mq_law_seized.proofs.Landing.{LandedHas, landed_has}
+use Rattle.mq_law_node.proofs.from_law_seized.Landing.{LandedHas, landed_has}
 use Rattle.mq_law_node.specs.Ends.{Reads, letter_of}
 use Rattle.mq_law_node.specs.Rows.{RowKind, Same, Placed, Kept, Retagged, Emptied, row_kind, rows_at, rows_do}
 use Rattle.mq_law_node.proofs.Batches.{found, get_mem}

@@ -11,10 +11,10 @@ use Rattle.mq_spec_network.specs.Standing.{last_unit_of}
 use Rattle.mq_law_channel.specs.Channel.{Channel, Facts, Past}
 use Rattle.mq_law_channel.specs.Turns.{emptied, released}
 use Rattle.mq_law_channel.proofs.Sending.{not_forced}
-use Rattle.mq_law_rows.specs.World.{Ghost, World}
-use Rattle.mq_law_rows.proofs.Lists.{bool_case, eqb_yes, true_false}
-use Rattle.mq_law_seen.specs.Seen.{doubt_of, held_unit, holds_of, world_of}
-use Rattle.mq_law_events.specs.Tied.{IsNext}
+use Rattle.mq_law_story.specs.from_law_rows.World.{Ghost, World}
+use Rattle.mq_law_story.proofs.from_law_rows.Lists.{bool_case, eqb_yes, true_false}
+use Rattle.mq_law_story.specs.from_law_seen.Seen.{doubt_of, held_unit, holds_of, world_of}
+use Rattle.mq_law_batches.specs.from_law_events.Tied.{IsNext}
 use Rattle.mq_law_batches.proofs.Releasing.{IsNear, lasts}
 use Rattle.mq_law_story.specs.Needs.{IsTied}
 use Rattle.mq_law_turns.specs.Turns.{IsAtRest}

@@ -48,16 +48,16 @@ use Rattle.mq_law_channel.specs.Turns.{SenderTurn, SeenIn, begun_unit, emptied, 
 use Rattle.mq_law_channel.proofs.Following.{said}
 use Rattle.mq_law_channel.proofs.Sending.{binding_is, fits_at, fits_sending, idle_is, kept_session, not_forced, waiting_is}
 use Rattle.mq_law_channel.proofs.Told.{ack_told, and_both, by_lines, doubt_is, err_told, given_self, no_doubt, unit_self, unit_yes}
-use Rattle.mq_law_rows.specs.Families.{is_here}
-use Rattle.mq_law_rows.specs.World.{Ghost, Inv, Tag, World, away, idents_in, row_stands, standing, stands, tag_idents, tag_of}
-use Rattle.mq_law_rows.specs.Kinds.{Chosen, after, freed, ghost_take, unit_at}
-use Rattle.mq_law_rows.specs.Ordered.{IsFront}
-use Rattle.mq_law_rows.proofs.Lists.{bool_case, here_self, keep_all, map_mem, mem_map, name_self, name_yes, true_false}
-use Rattle.mq_law_rows.proofs.Ordering.{first_is_front}
-use Rattle.mq_law_seen.specs.Seen.{doubt_of, held_unit, holds_of, last_of, rows_of, world_of}
+use Rattle.mq_law_story.specs.from_law_rows.Families.{is_here}
+use Rattle.mq_law_story.specs.from_law_rows.World.{Ghost, Inv, Tag, World, away, idents_in, row_stands, standing, stands, tag_idents, tag_of}
+use Rattle.mq_law_story.specs.from_law_rows.Kinds.{Chosen, after, freed, ghost_take, unit_at}
+use Rattle.mq_law_story.specs.from_law_rows.Ordered.{IsFront}
+use Rattle.mq_law_story.proofs.from_law_rows.Lists.{bool_case, here_self, keep_all, map_mem, mem_map, name_self, name_yes, true_false}
+use Rattle.mq_law_story.proofs.from_law_rows.Ordering.{first_is_front}
+use Rattle.mq_law_story.specs.from_law_seen.Seen.{doubt_of, held_unit, holds_of, last_of, rows_of, world_of}
 use Rattle.mq_law_manager.proofs.Removals.{mem_filter}
 use Rattle.mq_law_manager.proofs.Named.{batch_dropped}
-use Rattle.mq_law_events.specs.Tied.{IsNext}
+use Rattle.mq_law_batches.specs.from_law_events.Tied.{IsNext}
 use Rattle.mq_law_batches.specs.Releases.{held_changes, release_changes, settled_changes}
 use Rattle.mq_law_batches.proofs.Holding as holding
 use Rattle.mq_law_batches.proofs.Holding.{held_holds}

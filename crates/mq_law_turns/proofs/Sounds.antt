@@ -40,7 +40,7 @@ use Rattle.mq_law_channel.specs.Channel.{Channel, Facts, Past}
 use Rattle.mq_law_channel.specs.Turns.{SeenIn}
 use Rattle.mq_law_channel.proofs.Sending.{binding_is, fits_at, idle_is, starting_is, waiting_is}
 use Rattle.mq_law_channel.proofs.Told.{ack_told, doubt_is, err_told, no_doubt}
-use Rattle.mq_law_rows.proofs.Lists.{bool_case}
+use Rattle.mq_law_story.proofs.from_law_rows.Lists.{bool_case}
 use Rattle.mq_law_manager.specs.Facts.{IsSound}
 use Rattle.mq_law_manager.specs.Kept.{AllKeep, Keeps, StepKeeps}
 use Rattle.mq_law_manager.proofs.Batches.{harden_keeps, prepare_keeps, release_batch_keeps}

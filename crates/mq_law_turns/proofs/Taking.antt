@@ -35,13 +35,13 @@ use Rattle.mq_law_channel.specs.Channel.{Channel, Facts, Past}
 use Rattle.mq_law_channel.specs.Following.{Awaited, Placed}
 use Rattle.mq_law_channel.specs.Turns.{ReceiverMay, SeenIn, receiver_does, receiver_turn, receiver_turned}
 use Rattle.mq_law_channel.proofs.Following as following
-use Rattle.mq_law_rows.specs.Families.{put_at}
-use Rattle.mq_law_rows.specs.World.{Book, Ghost, Inv, World, tag_idents, tag_of}
-use Rattle.mq_law_rows.specs.Kinds.{ghost_receive, unit_at}
+use Rattle.mq_law_story.specs.from_law_rows.Families.{put_at}
+use Rattle.mq_law_story.specs.from_law_rows.World.{Book, Ghost, Inv, World, tag_idents, tag_of}
+use Rattle.mq_law_story.specs.from_law_rows.Kinds.{ghost_receive, unit_at}
 use Rattle.mq_law_channel.proofs.Told.{unit_self}
-use Rattle.mq_law_rows.proofs.Lists.{bool_case, here_self, true_false}
-use Rattle.mq_law_seen.specs.Seen.{book_of, world_of}
-use Rattle.mq_law_events.specs.Tied.{IsNext}
+use Rattle.mq_law_story.proofs.from_law_rows.Lists.{bool_case, here_self, true_false}
+use Rattle.mq_law_story.specs.from_law_seen.Seen.{book_of, world_of}
+use Rattle.mq_law_batches.specs.from_law_events.Tied.{IsNext}
 use Rattle.mq_law_batches.specs.Releases.{IsWord}
 use Rattle.mq_law_batches.proofs.Wording.{Stays, stays, words}
 use Rattle.mq_law_node.specs.Ends.{TakesAs, place_out, receiver_of, receiver_out, stamped, taking_turn}

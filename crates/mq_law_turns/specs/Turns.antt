@@ -19,10 +19,10 @@ use Rattle.mq_spec_node.specs.Node.{Node}
 use Rattle.mq_history.specs.declared.calls.Reply.{Reply}
 use Rattle.mq_law_channel.specs.Channel.{Channel, Facts, Past}
 use Rattle.mq_law_channel.specs.Facts.{now}
-use Rattle.mq_law_rows.specs.Families.{is_here}
-use Rattle.mq_law_rows.specs.World.{Book, Ghost, Inv, World}
-use Rattle.mq_law_seen.specs.Seen.{world_of, book_of}
-use Rattle.mq_law_events.specs.Tied.{IsNext, AreShelved, Follow, IsFresh, IsTold}
+use Rattle.mq_law_story.specs.from_law_rows.Families.{is_here}
+use Rattle.mq_law_story.specs.from_law_rows.World.{Book, Ghost, Inv, World}
+use Rattle.mq_law_story.specs.from_law_seen.Seen.{world_of, book_of}
+use Rattle.mq_law_batches.specs.from_law_events.Tied.{IsNext, AreShelved, Follow, IsFresh, IsTold}
 use Rattle.mq_law_node.specs.Ends.{SendsAs, TakesAs, Where}
 use Rattle.mq_law_story.specs.Needs.{IsTied}
 use Rattle.mq_history.specs.declared.calls.Call.TheVariants as calls
@@ -31,9 +31,9 @@ use Rattle.mq_message.specs.declared.message.Message.{Message}
 use Rattle.mq_spec_network.specs.Ledger.{Ledger, post_call, take_all_gone}
 use Rattle.mq_law_manager.specs.Facts.{IsSound}
 use Rattle.mq_law_manager.specs.Kept.{AllKeep}
-use Rattle.mq_law_events.specs.Posting.{IsTimed}
+use Rattle.mq_law_batches.specs.from_law_events.Posting.{IsTimed}
 use Rattle.mq_law_receipts.specs.Receipts.{AreNumbered, IsCabled, Receipt}
-use Rattle.mq_law_seized.specs.Each.{all_of, parts_of_all}
+use Rattle.mq_law_node.specs.from_law_seized.Each.{all_of, parts_of_all}
 
 -- a network and its ledger, with what the proof follows beside them, and one channel: its sender's and its receiver's manager, and
 -- where its end stands

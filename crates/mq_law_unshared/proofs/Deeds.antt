@@ -17,7 +17,7 @@ use Rattle.mq_law_manager.specs.Facts.{IsSound}
 use Rattle.mq_law_seized.specs.Each.{IsCommon}
 use Rattle.mq_law_manager.specs.Kept.{AllKeep, StepKeeps}
 use Rattle.mq_law_seized.proofs.CommonCalls.{discard_common, move_common, mqback_common, mqclose_common, mqcmit_common, mqconn_common, mqdisc_common, mqput1_common, mqput_common, trigger_common}
-use Rattle.mq_law_node.specs.Quiet.{IsOrdinary}
+use Rattle.mq_law_keys.specs.from_law_node.Quiet.{IsOrdinary}
 use Rattle.mq_law_seized.specs.Seized.{AreSeized}
 use Rattle.mq_law_seized.proofs.Bare.{common_leaves}
 use Rattle.mq_law_seized.proofs.Calling.{gets, opens}

@@ -18,8 +18,8 @@ use Rattle.mq_spec_node.specs.Senders.{sender_deed, timeout_deed}
 use Rattle.mq_spec_node.specs.Happens.{IsEvent, deed_of, event, receiver_turn, sender_turn, timeout_of}
 use Rattle.mq_history.specs.declared.history.History.{History}
 use Rattle.mq_law_manager.specs.Facts.{IsSound}
-use Rattle.mq_law_node.specs.Quiet.{EachQuiet}
-use Rattle.mq_law_node.proofs.Ordinary.{ordinary_is_quiet}
+use Rattle.mq_law_keys.specs.from_law_node.Quiet.{EachQuiet}
+use Rattle.mq_law_keys.proofs.from_law_node.Ordinary.{ordinary_is_quiet}
 use Rattle.mq_law_seized.proofs.Seizing.{none_seized}
 use Rattle.mq_law_keys.specs.Keys.{IsKeyed}
 use Rattle.mq_law_keys.proofs.Telling.{sender_end_mem}
@@ -32,8 +32,8 @@ use Rattle.mq_law_unshared.proofs.Opening.{EachOpen, operate_opens, sender_opens
 use Rattle.std.proofs.lemmas.Bool.{true≢false}
 use Rattle.mq_spec_node.specs.Operators.{operate}
 use Rattle.mq_spec_node.specs.Receivers.{receiver_deed}
-use Rattle.mq_law_node.specs.Deeds.{HoldsBehind, IsLasting}
-use Rattle.mq_law_node.proofs.Deeds.{deed_has, lasts}
+use Rattle.mq_law_keys.specs.from_law_node.Deeds.{HoldsBehind, IsLasting}
+use Rattle.mq_law_keys.proofs.from_law_node.Deeds.{deed_has, lasts}
 use Rattle.mq_law_seized.specs.Seized.{AreSeized}
 use Rattle.mq_law_unshared.specs.Senders.{AreEach, IsOpen}
 use Rattle.mq_law_unshared.proofs.Senders.{left_each, receiver_each, turn_has}

@@ -7,3 +7,6 @@ pub mod Senders
 pub mod Opening
 pub mod Events
 pub mod Alone
+pub mod from_law_keys
+pub mod from_law_node
+pub mod from_law_seized

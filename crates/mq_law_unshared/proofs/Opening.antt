@@ -48,7 +48,7 @@ use Rattle.mq_law_unshared.specs.Unshared.{AreOpen, parts_still, parts_still_for
 use Rattle.mq_law_unshared.proofs.Stills.{bare_parts, for_behind, for_parts, parts_have, set_there, for_one}
 use Rattle.mq_sync.specs.declared.unit.Settle.TheVariants as settles
 use Rattle.mq_law_seized.specs.Each.{is_common, is_written}
-use Rattle.mq_law_node.specs.Deeds.{HoldsBehind}
+use Rattle.mq_law_keys.specs.from_law_node.Deeds.{HoldsBehind}
 use Rattle.mq_law_keys.proofs.Keeping.{EachThere, end_there}
 use Rattle.mq_law_unshared.specs.Senders.{AreEach, IsLeftBy, IsOpen}
 use Rattle.mq_law_unshared.proofs.Senders.{awaits_runs, receiver_starts, receiver_stops, refused_each, removed, resets_each, resolves_each, set_each, settled, turn_has}

@@ -40,7 +40,7 @@ use Rattle.mq_spec_node.specs.Handlers as handlers
 use Rattle.mq_spec_node.specs.Status.{is_asked, shown, status_line}
 use Rattle.mq_spec_node.specs.Happens.{command_deed, deed_of, get_deed, get_done, got_deed, handler_turn, obey_deed, trigger_deed_of, turn_up, where_up}
 use Rattle.mq_law_manager.proofs.Lists.{bool_case}
-use Rattle.mq_law_node.specs.Quiet.{IsCommandQuiet, IsOrdinary, IsTurnQuiet}
+use Rattle.mq_law_keys.specs.from_law_node.Quiet.{IsCommandQuiet, IsOrdinary, IsTurnQuiet}
 use Rattle.mq_law_unshared.specs.Ordinary.{CallsHave, EachHas}
 
 -- a deed of a step

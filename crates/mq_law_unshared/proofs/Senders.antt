@@ -50,9 +50,9 @@ use Rattle.mq_law_seized.proofs.CommonCalls.{removal_common}
 use Rattle.mq_law_seized.proofs.Each.{all_weaker, parts_behind, parts_weaker, step_weaker}
 use Rattle.mq_law_manager.proofs.Lists.{bool_case, is_false, name_yes}
 use Rattle.mq_law_seized.proofs.Written.{harden_written, receive_written}
-use Rattle.mq_law_node.proofs.Quiet.{step_parts}
-use Rattle.mq_law_node.proofs.Named.{nat_self, nat_yes}
-use Rattle.mq_law_node.specs.Deeds.{HoldsBehind}
+use Rattle.mq_law_keys.proofs.from_law_node.Quiet.{step_parts}
+use Rattle.mq_law_keys.proofs.from_law_node.Named.{nat_self, nat_yes}
+use Rattle.mq_law_keys.specs.from_law_node.Deeds.{HoldsBehind}
 use Rattle.mq_law_keys.specs.Keys.{AreKeyed, IsKeyed, key_of, keys}
 use Rattle.mq_law_keys.proofs.Telling.{mem_keys, one_channel, other_kind, same_sender}
 use Rattle.mq_law_unshared.specs.Senders.{AreEach, IsLeftBy}

@@ -10,8 +10,8 @@ use Rattle.mq_spec_node.specs.Node.{Node, Own}
 use Rattle.mq_spec_node.specs.Deeds.{Deed}
 use Rattle.mq_spec_node.specs.Happens.{deed_of}
 use Rattle.mq_law_seized.proofs.Each.{parts_weaker}
-use Rattle.mq_law_node.specs.Quiet.{EachCall, is_call, IsOrdinary}
-use Rattle.mq_law_node.proofs.Ordinary.{ordinary_is_call}
+use Rattle.mq_law_keys.specs.from_law_node.Quiet.{EachCall, is_call, IsOrdinary}
+use Rattle.mq_law_keys.proofs.from_law_node.Ordinary.{ordinary_is_call}
 use Rattle.mq_law_unshared.specs.Ordinary.{EachHas}
 use Rattle.mq_law_unshared.specs.Unshared.{is_still, parts_still}
 

@@ -16,7 +16,7 @@ use Rattle.mq_spec_manager.specs.Agents.{HasSeized}
 use Rattle.mq_spec_node.specs.Deeds.{parts_of}
 use Rattle.mq_law_manager.proofs.Lists.{bool_case, name_self, name_yes}
 use Rattle.mq_law_seized.proofs.Each.{kept_behind, parts_behind, parts_keep, parts_weaker, step_weaker}
-use Rattle.mq_law_node.proofs.Quiet.{step_parts}
+use Rattle.mq_law_keys.proofs.from_law_node.Quiet.{step_parts}
 use Rattle.mq_law_seized.specs.Seized.{is_bare, step_bare}
 use Rattle.mq_law_unshared.specs.Unshared.{is_still, is_still_for, parts_still, parts_still_for}
 

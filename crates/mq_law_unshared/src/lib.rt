@@ -21,7 +21,7 @@ ghost use Rattle.mq_spec_node.specs.Replays.{IsOwn, Surroundings, opening_node};
 ghost use Rattle.mq_spec_node.specs.Senders.{sender_deed, timeout_deed};
 ghost use Rattle.mq_law_manager.specs.Facts.{IsSound};
 ghost use Rattle.mq_law_manager.specs.Kept.{AllKeep};
-ghost use Rattle.mq_law_node.specs.Quiet.{IsOrdinary};
+ghost use Rattle.mq_law_keys.specs.from_law_node.Quiet.{IsOrdinary};
 ghost use Rattle.mq_law_seized.specs.Seized.{AreSeized};
 ghost use Rattle.mq_law_keys.specs.Keys.{IsKeyed};
 ghost use Rattle.mq_law_unshared.specs.Unshared.{EachLeaves, IsUnshared, WhereUp};

@@ -1,8 +1,8 @@
 //! The call that a line of a script makes.
 ghost use Rattle.std.specs.Prelude.{◌≡◌, IfOk, min, ◌+◌};
 ghost use Rattle.mq_spec_node.specs.Scripts.{script_appl, get_of, id_or, put_md, body_bytes, reply_target, reply_correl, hobj, hconn_or, line_call, deadline, wait_of};
-ghost use Rattle.mq_spec_manager.specs.Words.{last_moment};
-ghost use Rattle.mq_history.specs.declared.calls.Call.TheVariants as calls;
+ghost use Rattle.mq_spec_node.specs.from_spec_manager.Words.{last_moment};
+ghost use Rattle.mq_spec_node.specs.from_history.CallVariants as calls;
 
 use crate::copies::copy_command;
 use crate::letters::{body_bytes, id_or, put_md, reply_correl};
@@ -11,7 +11,7 @@ use crate::targets::reply_target;
 use crate::texts::appl_name;
 use mq_base::{Label, NoMemory, QName};
 use mq_calls::{Appl, Get};
-use mq_history::{Act, Body, Call, GetOptions, PutOptions, ScriptLine};
+use mq_spec_node::below::{Act, Body, Call, GetOptions, PutOptions, ScriptLine};
 use std::alloc::Global;
 
 /// The last moment, in milliseconds since 1970: the last millisecond of the year 9999 in GMT.
@@ -43,8 +43,8 @@ pub fn wait_of(line: &ScriptLine) -> Option<u64>
     }
 }
 
-/// A script connects by its label.
-fn script_appl(label: &Label) -> Appl
+/// A script, or a monitor, connects by its label.
+pub fn script_appl(label: &Label) -> Appl
     ensures { result ≡ script_appl label.now }
 {
     Appl {

@@ -3,8 +3,8 @@ ghost use Rattle.std.specs.Prelude.{◌≡◌, IfOk, replicate};
 ghost use Rattle.mq_spec_node.specs.Scripts.{id_or, put_md, body_bytes, last_id, reply_correl};
 
 use mq_base::{Items, NoMemory};
-use mq_history::{Body, PutOptions};
 use mq_message::{Bytes, Md};
+use mq_spec_node::below::{Body, PutOptions};
 use std::alloc::Global;
 
 /// An id; zero where none is given.

@@ -8,7 +8,7 @@ mod memory;
 mod targets;
 mod texts;
 
-pub use calls::{deadline_of, line_call, wait_of};
+pub use calls::{deadline_of, line_call, script_appl, wait_of};
 pub use copies::copy_command;
-pub use memory::Memory;
+pub use memory::{Memory, connected};
 pub use texts::appl_name;

@@ -5,8 +5,8 @@ ghost use Rattle.mq_spec_node.specs.Scripts.{fresh, hconn_or, hobj, hobj_in, con
 
 use mq_base::{Label, NoMemory};
 use mq_calls::{Answer, Hconn, Hobj};
-use mq_history::{Reply, ScriptLine};
 use mq_message::Md;
+use mq_spec_node::below::{Reply, ScriptLine};
 use std::alloc::Global;
 use std::marker::Model;
 
@@ -74,7 +74,7 @@ fn drop_label(handles: &mut Vec<Bound>, label: &Label)
 }
 
 /// The connection that was answered.
-fn connected(reply: &Reply) -> Option<Hconn>
+pub fn connected(reply: &Reply) -> Option<Hconn>
     ensures { result ≡ connected reply.now }
 {
     match reply {

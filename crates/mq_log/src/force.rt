@@ -1,6 +1,6 @@
 //! Writes that are on the disk when they return.
 ghost use Rattle.std.specs.Prelude.{◌≡◌, ◌⊎◌, ◌+◌, ◌^◌, ◌≤◌, ◌<◌, max, ℕ, List, [], ◌∷◌, ◌++◌, length, take, drop, false, OnOk, OnErr, IsErrOf};
-ghost use Rattle.mq_base.specs.Outside.{Rose};
+ghost use Rattle.mq_disk.specs.from_base.Outside.{Rose};
 ghost use Rattle.mq_disk.specs.Disk.{Only, Torn, overwritten};
 ghost use Rattle.mq_disk.specs.Stops.{Ends};
 ghost use Rattle.mq_log.specs.Force.{StagedOrOpened};

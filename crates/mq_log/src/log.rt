@@ -1,6 +1,6 @@
 //! The forced log.
 ghost use Rattle.std.specs.Prelude.{◌≡◌, ◌≢◌, ◌+◌, ◌-◌, ◌^◌, ◌≤◌, ◌<◌, ◌↔◌, ℕ, [], ◌∷◌, ◌++◌, length, true, false, None, Some, OnOk, OnErr, IfOk, IfErr, IsErrOf, IsTrue, MatchResult, List, vec_len, vec_capacity};
-ghost use Rattle.mq_base.specs.Outside.{Rose};
+ghost use Rattle.mq_disk.specs.from_base.Outside.{Rose};
 ghost use Rattle.mq_log.specs.Force.{Stops};
 ghost use Rattle.mq_log.specs.Bodies.{number_bytes, frames, AllFit, IsLog};
 ghost use Rattle.mq_log.specs.declared.log.LogFull.TheVariants.{NoMemory};
@@ -13,7 +13,7 @@ use crate::force::force;
 use crate::images::{Found, compare};
 use crate::open::{StartFault, open_log};
 use crate::scan::OPEN;
-use mq_base::NoMemory;
+use mq_disk::below::NoMemory;
 use mq_disk::{Cutter, Disk, Stop};
 use std::alloc::{AllocError, Global};
 use std::marker::Model;

@@ -1,6 +1,6 @@
 //! The start of a log: its bytes are read, or an empty log is made.
 ghost use Rattle.std.specs.Prelude.{◌≡◌, ◌⊎◌, ◌+◌, ◌-◌, ◌≤◌, ◌<◌, min, max, ℕ, List, [], ◌∷◌, length, take, true, false, OnOk, OnErr, IfOk, IfErr, IsErrOf, vec_len};
-ghost use Rattle.mq_base.specs.Outside.{Rose};
+ghost use Rattle.mq_disk.specs.from_base.Outside.{Rose};
 ghost use Rattle.mq_disk.specs.Disk.{Only, NothingNew};
 ghost use Rattle.mq_disk.specs.Stops.{Within};
 ghost use Rattle.mq_log.specs.declared.open.StartFault.TheVariants.{NoMemory, Disk};
@@ -133,6 +133,18 @@ fn read_more<D: Disk>(
     Ok(())
 }
 
+// No byte, with room for so many where there is memory for them; without it they are read into a list that grows.
+fn with_room(alloc: Global, size: u64) -> Vec<u8>
+    ensures items { result.items ≡ [] }
+    ensures len { vec_len result ≡ 0 }
+{
+    let mut bytes = Vec::new(alloc);
+    if bytes.reserve(size as usize).is_err() {
+        return bytes;
+    }
+    bytes
+}
+
 // Reads the log of a disk of this size, once and in pieces, up to the first gate that isn't open.
 fn read_log<D: Disk>(alloc: Global, disk: &mut Cutter<D>, size: u64) -> Result<Vec<u8>, StartFault>
     requires passes { disk.old.stopped ≡ false }
@@ -147,7 +159,7 @@ fn read_log<D: Disk>(alloc: Global, disk: &mut Cutter<D>, size: u64) -> Result<V
     ensures later { D.faults disk.old.inner ≤ D.faults disk.new.inner }
     ensures disk { IsErrOf result StartFault.Disk → Rose (D.faults disk.old.inner) (D.faults disk.new.inner) }
 {
-    let mut bytes = Vec::new(alloc);
+    let mut bytes = with_room(alloc, size);
     let mut at = 0;
     'reading: loop {
         read_more(disk, &mut bytes, size)?;

@@ -6,11 +6,11 @@ use Rattle.mq_calls.specs.State.Running.{Up, Down}
 use Rattle.mq_calls.specs.Words.{Plain}
 use Rattle.mq_spec_manager.specs.Stops.{advance_clock, cut, stop, stop_at}
 use Rattle.mq_law_image.specs.Values.{AreObjectTexts}
-use Rattle.mq_core.specs.Values.{CoreValue, LogBodies}
-use Rattle.mq_restart.specs.declared.reading.LogRead.{LogRead}
-use Rattle.mq_restart.specs.declared.reading.LogRead.TheVariants as reads
-use Rattle.mq_restart.specs.Stands.{LogStands, LogStandsAt}
-use Rattle.mq_restart.proofs.StandLaws.{cuts_stand, clock_stands, stops_stand}
+use Rattle.mq_receive.specs.from_core.Values.{CoreValue, LogBodies}
+use Rattle.mq_restarts.specs.from_restart.{LogRead}
+use Rattle.mq_restarts.specs.from_restart.LogReadVariants as reads
+use Rattle.mq_restarts.specs.from_restart.Stands.{LogStands, LogStandsAt}
+use Rattle.mq_restarts.proofs.from_restart.StandLaws.{cuts_stand, clock_stands, stops_stand}
 use Rattle.mq_steer.specs.Quiet.{quietly}
 use Rattle.mq_manager.specs.Kept.{IsKept}
 use Rattle.mq_manager.proofs.WellLaws.{well_aside, well_stop}

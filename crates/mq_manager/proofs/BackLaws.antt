@@ -7,13 +7,13 @@ use Rattle.mq_calls.specs.declared.records.LogRecord.TheVariants as records
 use Rattle.mq_calls.specs.Words.{Part, need}
 use Rattle.mq_record.specs.Records.{IsRecord, record_bytes}
 use Rattle.mq_record.proofs.SizeLaws.{record_whole}
-use Rattle.mq_spec_log.specs.Applies.{is_in_bounds}
-use Rattle.mq_spec_log.specs.Applies.Start.{Later}
-use Rattle.mq_spec_log.specs.Bodies.{record_of}
+use Rattle.mq_law_log.specs.from_spec_log.Applies.{is_in_bounds}
+use Rattle.mq_law_log.specs.from_spec_log.Applies.Start.{Later}
+use Rattle.mq_law_log.specs.from_spec_log.Bodies.{record_of}
 use Rattle.mq_law_image.specs.Values.{IsMade, MakesText}
 use Rattle.mq_law_image.proofs.Made.{made_read}
-use Rattle.mq_core.specs.Writes.{FitsRecord}
-use Rattle.mq_core.specs.Values.{IsRecordIn, AreRecords, AreRecordsTo}
+use Rattle.mq_receive.specs.from_core.Writes.{FitsRecord}
+use Rattle.mq_receive.specs.from_core.Values.{IsRecordIn, AreRecords, AreRecordsTo}
 use Rattle.mq_manager.specs.Reads.{CanBeRead, CanBeReadIn, AllCanBeRead}
 
 -- a record is read from its bytes, within the bounds of numbers, and is as long as it says

@@ -1,10 +1,10 @@
 -- No channel has two batches: they stand in order of the channels' names, whatever is changed; and each holds just what it lists.
 use Rattle.std.proofs.Common.{◌≡◌, ℕ, Bool, true, false, List, [], ◌∷◌, refl, ap, sym, subst, ◌∙◌}
-use Rattle.std.proofs.Common.{Ordering, Less, Equal, Greater, inl, inr}
+use Rattle.std.proofs.Common.{inl, inr}
 use Rattle.std.specs.Prelude.{Some, not, filter, if◌then◌else◌}
 use Rattle.std.specs.List.{AllByRecursion}
 use Rattle.std.specs.Str.{bytes_eq}
-use Rattle.std.specs.Ordering.{is_lt, is_eq, nat_cmp, ordering_reverse}
+use Rattle.std.specs.Ordering.{is_lt, nat_cmp}
 use Rattle.std.specs.Cmp.{IsTotalOrder}
 use Rattle.std.specs.Cmp.Lexicographic.{slice_cmp}
 use Rattle.std.proofs.lemmas.Cmp.{nat_list_cmp_total}
@@ -20,7 +20,7 @@ use Rattle.mq_law_manager.specs.Facts.{IsSound}
 use Rattle.mq_law_manager.specs.Kept.{AllKeep}
 use Rattle.mq_law_manager.proofs.Lists.{bool_case}
 use Rattle.mq_law_manager.proofs.Named.{name_is, name_self, name_turned}
-use Rattle.mq_law_manager.proofs.Routes.{before_trans, before_apart}
+use Rattle.mq_law_manager.proofs.Routes.{before_trans, before_apart, turned_less}
 use Rattle.mq_law_log.proofs.Bridge.{sound_logs}
 use Rattle.mq_steer.specs.Rests.{HoldsJust, AreHeldIn, AreHeld}
 use Rattle.mq_manager.specs.Facts.{AreByChannel}
@@ -28,11 +28,6 @@ use Rattle.mq_manager.specs.Facts.{AreByChannel}
 -- names that differ come one before the other
 names_total : IsTotalOrder (slice_cmp nat_cmp)
 names_total = nat_list_cmp_total
-
-turned_less : (o : Ordering) → is_eq o ≡ false → is_lt o ≡ false → is_lt (ordering_reverse o) ≡ true
-turned_less Less e f = absurd cc
-turned_less Equal e f = absurd cc
-turned_less Greater e f = refl
 
 before_turned : (a b : List ℕ) → bytes_eq a b ≡ false → comes_before a b ≡ false → comes_before b a ≡ true
 before_turned a b e f = ap is_lt (names_total.antisymm b a) ∙ turned_less (slice_cmp nat_cmp a b) (is_eq-slice_cmp a b ∙ e) f

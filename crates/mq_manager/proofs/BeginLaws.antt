@@ -6,15 +6,15 @@ use Rattle.mq_calls.specs.State.{Given, Running}
 use Rattle.mq_calls.specs.Words.{Plain}
 use Rattle.mq_spec_manager.specs.Stops.{first_start, started_record}
 use Rattle.mq_record.specs.Records.{record_bytes}
-use Rattle.mq_spec_log.specs.Applies.Start.{First}
+use Rattle.mq_law_log.specs.from_spec_log.Applies.Start.{First}
 use Rattle.mq_law_manager.specs.Facts.{IsSound}
 use Rattle.mq_law_manager.proofs.Ending.{sound_still, first_sound}
 use Rattle.mq_law_image.specs.Values.{AreObjectTexts}
 use Rattle.mq_law_image.proofs.Logged.{image_text}
-use Rattle.mq_core.specs.Values.{CoreValue, LogBodies}
-use Rattle.mq_restart.specs.Begun.{HasBegun}
-use Rattle.mq_restart.specs.declared.reading.LogRead.TheVariants as reads
-use Rattle.mq_restart.specs.Stands.{StandsUp, LogStandsAt}
+use Rattle.mq_receive.specs.from_core.Values.{CoreValue, LogBodies}
+use Rattle.mq_restarts.specs.from_restart.Begun.{HasBegun}
+use Rattle.mq_restarts.specs.from_restart.LogReadVariants as reads
+use Rattle.mq_restarts.specs.from_restart.Stands.{StandsUp, LogStandsAt}
 use Rattle.mq_manager.specs.Facts.{IsWell}
 use Rattle.mq_manager.specs.Kept.{IsKept}
 

@@ -26,7 +26,7 @@ use Rattle.mq_calls.specs.Images.{lasting}
 use Rattle.mq_calls.specs.State.{Plain, Running}
 use Rattle.mq_calls.specs.State.Running.{Up, Down}
 use Rattle.mq_frame.specs.Reading.{IsBytes}
-use Rattle.mq_spec_log.specs.Applies.Start.{Later}
+use Rattle.mq_law_log.specs.from_spec_log.Applies.Start.{Later}
 use Rattle.mq_spec_manager.specs.Words.{Never, mqconn, mqopen, mqclose, mqput, mqput1, mqget, mqcmit, mqback, mqdisc}
 use Rattle.mq_spec_manager.specs.Triggers.{trigger_turn}
 use Rattle.mq_spec_manager.specs.Commands.{command}
@@ -39,10 +39,10 @@ use Rattle.mq_law_log.proofs.Landings.{receive_harmless}
 use Rattle.mq_law_log.proofs.Moves.{move_harmless}
 use Rattle.mq_law_log.proofs.Commanded.{command_harmless}
 use Rattle.mq_law_image.specs.Values.{IsCommandText, StepMakes}
-use Rattle.mq_core.specs.Values.{CoreValue, WritesLog, begun_call, manager_of}
-use Rattle.mq_restart.specs.declared.reading.LogRead.{LogRead}
-use Rattle.mq_restart.specs.declared.reading.LogRead.TheVariants as reads
-use Rattle.mq_restart.specs.Stands.{StandsUp}
+use Rattle.mq_receive.specs.from_core.Values.{CoreValue, WritesLog, begun_call, manager_of}
+use Rattle.mq_restarts.specs.from_restart.{LogRead}
+use Rattle.mq_restarts.specs.from_restart.LogReadVariants as reads
+use Rattle.mq_restarts.specs.from_restart.Stands.{StandsUp}
 use Rattle.mq_manager.specs.Facts.{IsWell}
 use Rattle.mq_manager.specs.Limits.{fits}
 use Rattle.mq_manager.specs.Reads.{StepCanBeRead, IsLowNote, IsEnding, has_name, is_ending, is_low, can_harden}

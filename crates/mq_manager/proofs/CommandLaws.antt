@@ -41,7 +41,7 @@ use Rattle.mq_law_manager.proofs.Planning.{EachChange, PlanHas, plan_has}
 use Rattle.mq_law_manager.proofs.Commanding.{command_keeps}
 use Rattle.mq_law_manager.proofs.StockCommands.{command_stocked}
 use Rattle.mq_law_manager.proofs.Stocks.{tested_on}
-use Rattle.mq_core.specs.Values.{CoreValue, WritesLog, begun_call, manager_of}
+use Rattle.mq_receive.specs.from_core.Values.{CoreValue, WritesLog, begun_call, manager_of}
 use Rattle.mq_steer.proofs.PlanLaws.{meets_halt, told_halt}
 use Rattle.mq_manager.specs.Facts.{HasLimit, IsWell}
 use Rattle.mq_manager.specs.Limits.{setting_fits, fits}

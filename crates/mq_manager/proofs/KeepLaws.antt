@@ -12,19 +12,19 @@ use Rattle.mq_calls.specs.declared.commands.Halt.{Halt}
 use Rattle.mq_calls.specs.Meeting.Wants.{Nowhere, Behind, Anywhere}
 use Rattle.mq_log.proofs.Logs.{log_length-push}
 use Rattle.mq_record.specs.Records.{record_bytes}
-use Rattle.mq_spec_log.specs.Applies.Start.{Later}
-use Rattle.mq_spec_log.specs.Bodies.{image}
+use Rattle.mq_law_log.specs.from_spec_log.Applies.Start.{Later}
+use Rattle.mq_law_log.specs.from_spec_log.Bodies.{image}
 use Rattle.mq_law_log.specs.Keeps.{Keeps}
 use Rattle.mq_law_log.specs.Restarts.{AllHarmless, StepHarmless, IsHarmless, IsGivenIn}
 use Rattle.mq_law_manager.specs.Facts.{IsSound}
 use Rattle.mq_law_manager.proofs.Untouched.{changes_untouched, part_given, parts_running}
 use Rattle.mq_law_image.specs.Values.{AreObjectTexts, IsMade, StepMakes}
 use Rattle.mq_law_image.proofs.Made.{part_texts}
-use Rattle.mq_core.specs.Values.{CoreValue, LogBodies, WritesLog, manager_of, behind_record, pending_record, wrote_all, broke_at}
-use Rattle.mq_restart.specs.declared.reading.LogRead.{LogRead}
-use Rattle.mq_restart.specs.declared.reading.LogRead.TheVariants as reads
-use Rattle.mq_restart.specs.Stands.{StandsUp, LogStands, LogStandsAt}
-use Rattle.mq_restart.proofs.StandLaws.{breaks_stand}
+use Rattle.mq_receive.specs.from_core.Values.{CoreValue, LogBodies, WritesLog, manager_of, behind_record, pending_record, wrote_all, broke_at}
+use Rattle.mq_restarts.specs.from_restart.{LogRead}
+use Rattle.mq_restarts.specs.from_restart.LogReadVariants as reads
+use Rattle.mq_restarts.specs.from_restart.Stands.{StandsUp, LogStands, LogStandsAt}
+use Rattle.mq_restarts.proofs.from_restart.StandLaws.{breaks_stand}
 use Rattle.mq_manager.specs.Facts.{IsWell}
 use Rattle.mq_manager.specs.Reads.{AllCanBeRead, StepCanBeRead}
 use Rattle.mq_manager.specs.Kept.{HasLog}

@@ -15,3 +15,9 @@ pub mod WantLaws
 pub mod BeginLaws
 pub mod RestartLaws
 pub mod CountLaws
+pub mod from_agents
+pub mod from_core
+pub mod from_law_image
+pub mod from_law_log
+pub mod from_law_manager
+pub mod from_receive

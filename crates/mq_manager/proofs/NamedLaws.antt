@@ -35,10 +35,10 @@ use Rattle.mq_calls.specs.declared.image.Image.{Image}
 use Rattle.mq_calls.specs.Words.{Luw, receiver_or}
 use Rattle.mq_log.specs.Bodies.{frame}
 use Rattle.mq_spec_manager.specs.Agents.{CanHarden, unit_of}
-use Rattle.mq_spec_log.specs.Applies.{Start, applies}
-use Rattle.mq_spec_log.specs.Shelves.{added, added_all, removed, removed_all, with_sender, with_receiver, sender_at, receiver_at, on_shelves, on_all, held_rows}
-use Rattle.mq_spec_log.specs.Records.{doing, settled_rows}
-use Rattle.mq_spec_log.specs.Bodies.{changing, meaning, meaning_of, record_of, behind, or_place, image_from, begins, image, empty_image}
+use Rattle.mq_law_log.specs.from_spec_log.Applies.{Start, applies}
+use Rattle.mq_law_log.specs.from_spec_log.Shelves.{added, added_all, removed, removed_all, with_sender, with_receiver, sender_at, receiver_at, on_shelves, on_all, held_rows}
+use Rattle.mq_law_log.specs.from_spec_log.Records.{doing, settled_rows}
+use Rattle.mq_law_log.specs.from_spec_log.Bodies.{changing, meaning, meaning_of, record_of, behind, or_place, image_from, begins, image, empty_image}
 use Rattle.mq_law_manager.proofs.Lists.{bool_case}
 use Rattle.mq_law_manager.proofs.Named.{name_is}
 use Rattle.mq_manager.specs.Named.{HaveNames, AreNamedSides, HasChannel}

@@ -14,11 +14,10 @@ use Rattle.mq_law_manager.proofs.Beginning.{image_rests}
 use Rattle.mq_law_manager.proofs.Ending.{sound_still, begun_sound}
 use Rattle.mq_law_manager.proofs.StockStarts.{image_stocked}
 use Rattle.mq_law_image.specs.Values.{AreObjectTexts}
-use Rattle.mq_core.specs.Values.{CoreValue}
-use Rattle.mq_restart.specs.declared.reading.LogRead.{LogRead}
-use Rattle.mq_restart.specs.declared.reading.Unreturned.{Unreturned}
-use Rattle.mq_restart.specs.Returned.{IsOfImage, Stayed}
-use Rattle.mq_restart.specs.Stands.{LogStands}
+use Rattle.mq_receive.specs.from_core.Values.{CoreValue}
+use Rattle.mq_restarts.specs.from_restart.{LogRead, Unreturned}
+use Rattle.mq_restarts.specs.from_restart.Returned.{IsOfImage, Stayed}
+use Rattle.mq_restarts.specs.from_restart.Stands.{LogStands}
 use Rattle.mq_restarts.specs.declared.restarting.Back.{Back}
 use Rattle.mq_restarts.specs.Backs.{IsBack}
 use Rattle.mq_manager.specs.Facts.{IsWell}

@@ -10,14 +10,14 @@ use Rattle.mq_calls.specs.declared.commands.Halt.{Halt}
 use Rattle.mq_calls.specs.declared.image.Image.{Image}
 use Rattle.mq_spec_manager.specs.Stops.{redone, restarted}
 use Rattle.mq_record.specs.Records.{record_bytes}
-use Rattle.mq_spec_log.specs.Applies.Start.{Later}
-use Rattle.mq_spec_log.specs.Bodies.{image}
-use Rattle.mq_spec_log.specs.Records.{doing}
+use Rattle.mq_law_log.specs.from_spec_log.Applies.Start.{Later}
+use Rattle.mq_law_log.specs.from_spec_log.Bodies.{image}
+use Rattle.mq_law_log.specs.from_spec_log.Records.{doing}
 use Rattle.mq_law_log.specs.Keeps.{Keeps, Told}
 use Rattle.mq_law_log.specs.Restarts.{AllHarmless, StepHarmless, IsHarmless, IsGivenIn, note_at}
 use Rattle.mq_law_log.proofs.Ties.{written_tied, told}
 use Rattle.mq_law_log.proofs.Stops.{frozen_lasts, restart_recovers}
-use Rattle.mq_core.specs.Values.{CoreValue, LogBodies, WritesLog, manager_of, behind_record, pending_record, wrote_all, broke_at}
+use Rattle.mq_receive.specs.from_core.Values.{CoreValue, LogBodies, WritesLog, manager_of, behind_record, pending_record, wrote_all, broke_at}
 use Rattle.mq_manager.specs.Tells.{Tells, IsRead, AreRead, StepRead, TellsBroken, TellsAfter}
 use Rattle.mq_calls.specs.Meeting.Wants.{Nowhere, Behind, Anywhere}
 use Rattle.mq_law_manager.proofs.Untouched.{part_given}

@@ -8,8 +8,8 @@ use Rattle.mq_calls.specs.declared.agents.PlaceFault.TheVariants as place_faults
 use Rattle.mq_calls.specs.declared.commands.Halt.TheVariants as halts
 use Rattle.mq_calls.specs.Words.{Message, Luw, Step, Refuse, Do, MeetsOrWants}
 use Rattle.mq_spec_manager.specs.Agents.{harden, prepare, receive}
-use Rattle.mq_agents.specs.Ends.{by_agent, by_place, by_prepare}
-use Rattle.mq_core.specs.Values.{CoreValue, WritesLog, begun_call, manager_of}
+use Rattle.mq_receive.specs.from_agents.Ends.{by_agent, by_place, by_prepare}
+use Rattle.mq_receive.specs.from_core.Values.{CoreValue, WritesLog, begun_call, manager_of}
 
 wants : {F T : Type 0} (v new : CoreValue) (s : Step F T) → new ≡ begun_call v → MeetsOrWants (manager_of v) s (Err halts.NoMemory) (manager_of new)
 wants v new (Refuse reason) e = ap manager_of e

@@ -2,7 +2,7 @@
 use Rattle.std.proofs.Common.{◌≡◌, ◌≤◌, ◌+◌, ◌<◌, ◌^◌, ℕ, zero, suc, Bool, true, false, cond, List, [], ◌∷◌, refl, ap, sym, subst, arith}
 use Rattle.std.specs.Prelude.{Option, Some, None, Result, Ok, Err, not, ◌&&◌, ◌==◌, if◌then◌else◌, IfSome}
 use Rattle.std.specs.List.{AllByRecursion}
-use Rattle.mq_calls.specs.Words.{Reason, Md, Plain, Part, Step, Refuse, Do, ManagerValue, Wants, MeetsAs, MeetsDone, Meets, MeetsInRoom, is_up, connection_at, do_part, do_all, stopped_at, IsWrite, note_of, silent}
+use Rattle.mq_calls.specs.Words.{Reason, Md, Plain, Part, Step, Refuse, Do, ManagerValue, Wants, MeetsAs, MeetsDone, Meets, MeetsInRoom, is_up, connection_at, do_part, do_all, stopped_at, IsWrite, silent}
 use Rattle.mq_calls.specs.declared.answers.Answer.{Answer}
 use Rattle.mq_calls.specs.declared.answers.Get.{Get}
 use Rattle.mq_calls.specs.declared.answers.GetAnswer.{GetAnswer}
@@ -27,9 +27,9 @@ use Rattle.mq_spec_manager.specs.Get.{mqget}
 use Rattle.mq_spec_manager.specs.Units.{mqcmit, mqback, mqdisc}
 use Rattle.mq_spec_manager.specs.Triggers.{Never, trigger_at, trigger_turn}
 use Rattle.mq_spec_manager.specs.Stops.{stop, stop_at, stop_changes}
-use Rattle.mq_law_manager.specs.Facts.{IsSound, IsFrozen, IsStocked}
+use Rattle.mq_law_manager.specs.Facts.{IsSound, IsStocked}
 use Rattle.mq_law_manager.specs.Kept.{AllKeep, StepKeeps}
-use Rattle.mq_law_manager.proofs.Ending.{sound_still, frozen, joined, stop_sound}
+use Rattle.mq_law_manager.proofs.Ending.{sound_still, joined, stop_sound, stopped as stopped_frozen}
 use Rattle.mq_law_manager.proofs.Handling.{trigger_turn_keeps}
 use Rattle.mq_law_manager.proofs.Puts.{mqconn_keeps, mqopen_keeps, mqclose_keeps, mqput_keeps, mqput1_keeps}
 use Rattle.mq_law_manager.proofs.Removals.{mqget_keeps}
@@ -44,11 +44,6 @@ use Rattle.mq_manager.proofs.LimitLaws.{conn_limit, open_limit, close_limit, put
 all_end : (P : Plain → Type 0) (parts : List Part) (p : Plain) → P p → AllKeep P parts p → P (do_all parts p)
 all_end P [] p h k = h
 all_end P (part ∷ parts) p h k = all_end P parts (do_part part p) k.0 k.1
-
-stopped_frozen : (n : ℕ) (parts : List Part) (left : ℕ) (p : Plain) → IsSound p → AllKeep IsSound parts p → IsFrozen (stopped_at n parts left p)
-stopped_frozen n [] left p h k = sound_still p h
-stopped_frozen zero (part ∷ parts) left p h k = frozen (note_of part part.forced) left p h
-stopped_frozen (suc n) (part ∷ parts) left p h k = stopped_frozen n parts left (do_part part p) k.0 k.1
 
 stopped_limit : (n : ℕ) (parts : List Part) (left : ℕ) (p : Plain) → HasLimit p → AllKeep HasLimit parts p → HasLimit (stopped_at n parts left p)
 stopped_limit n [] left p h k = h

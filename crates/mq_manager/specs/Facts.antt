@@ -3,7 +3,7 @@ use Rattle.std.specs.Prelude.{◌≡◌, ◌≤◌, true, List}
 use Rattle.mq_base.specs.Members.{Chain}
 use Rattle.mq_calls.specs.Words.{Plain, comes_before, is_up}
 use Rattle.mq_calls.specs.declared.state.Batch.{Batch}
-use Rattle.mq_core.specs.Counting.{CanCount}
+use Rattle.mq_receive.specs.from_core.Counting.{CanCount}
 use Rattle.mq_law_manager.specs.Facts.{AreNamed, IsSound, IsFrozen}
 
 -- MAXMSGL of the manager is at most what a record can hold

@@ -1,9 +1,9 @@
 -- What a manager's log tells of it between its calls, beside its facts.
 use Rattle.mq_calls.specs.Words.{Plain}
 use Rattle.mq_law_image.specs.Values.{AreObjectTexts}
-use Rattle.mq_core.specs.Values.{CoreValue, LogBodies}
-use Rattle.mq_restart.specs.declared.reading.LogRead.{LogRead}
-use Rattle.mq_restart.specs.Stands.{LogStands}
+use Rattle.mq_receive.specs.from_core.Values.{CoreValue, LogBodies}
+use Rattle.mq_restarts.specs.from_restart.{LogRead}
+use Rattle.mq_restarts.specs.from_restart.Stands.{LogStands}
 use Rattle.mq_manager.specs.Facts.{IsWell}
 
 -- its objects have values that commands give, and its log stands as its history says

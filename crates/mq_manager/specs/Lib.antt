@@ -5,3 +5,13 @@ pub mod Tells
 pub mod Reads
 pub mod Named
 pub mod Kept
+pub mod from_agents
+pub mod from_core
+pub mod from_law_image
+pub mod from_law_manager
+pub mod from_place
+pub mod from_receive
+pub mod from_restart
+pub mod from_restarts
+pub mod from_spec_log
+pub mod from_steer

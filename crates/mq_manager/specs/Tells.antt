@@ -6,11 +6,11 @@ use Rattle.mq_calls.specs.declared.commands.Halt.{Halt}
 use Rattle.mq_calls.specs.declared.records.LogRecord.{LogRecord}
 use Rattle.mq_spec_manager.specs.Stops.{redone}
 use Rattle.mq_record.specs.Records.{record_bytes}
-use Rattle.mq_spec_log.specs.Applies.{is_in_bounds}
-use Rattle.mq_spec_log.specs.Applies.Start.{Later}
-use Rattle.mq_spec_log.specs.Bodies.{image, record_of}
+use Rattle.mq_law_log.specs.from_spec_log.Applies.{is_in_bounds}
+use Rattle.mq_law_log.specs.from_spec_log.Applies.Start.{Later}
+use Rattle.mq_law_log.specs.from_spec_log.Bodies.{image, record_of}
 use Rattle.mq_law_log.specs.Restarts.{note_at}
-use Rattle.mq_core.specs.Values.{CoreValue, LogBodies}
+use Rattle.mq_receive.specs.from_core.Values.{CoreValue, LogBodies}
 
 -- the image of the bodies is what lasts
 abbrev pub Tells : List (List ℕ) → Plain → Type 0

@@ -3,7 +3,7 @@ ghost use Rattle.std.specs.Prelude.{◌≡◌, ℕ, List, ◌∷◌, Result};
 ghost use Rattle.mq_calls.specs.Words.{MeetsAs, Step, Wants};
 ghost use Rattle.mq_calls.specs.declared.commands.Halt.{Halt};
 ghost use Rattle.mq_law_log.specs.Restarts.{StepHarmless};
-ghost use Rattle.mq_core.specs.Values.{CoreValue, WritesLog, manager_of};
+ghost use Rattle.mq_receive.specs.from_core.Values.{CoreValue, WritesLog, manager_of};
 ghost use Rattle.mq_manager.specs.Tells.{StepRead, Tells, TellsAfter};
 
 /// Where the image of a log's bodies is what lasts, it is so behind each call whose parts make crashes harmless and whose records are

@@ -1,6 +1,7 @@
 //! One queue manager over its forced log, whose facts hold between its calls.
 #![tactic(auto)]
 
+pub mod below;
 mod laws;
 mod limit;
 mod manager;

@@ -4,13 +4,13 @@ ghost use Rattle.std.specs.List.{list_all};
 ghost use Rattle.mq_calls.specs.Words.{MeetsOrWants};
 ghost use Rattle.mq_spec_manager.specs.Commands.{command};
 ghost use Rattle.mq_law_manager.specs.Facts.{AreOnce};
-ghost use Rattle.mq_core.specs.Values.{WritesLog, begun_call, manager_of};
+ghost use Rattle.mq_receive.specs.from_core.Values.{WritesLog, begun_call, manager_of};
 ghost use Rattle.mq_manager.specs.Limits.{setting_fits, fits};
 
 use mq_calls::{Halt, ScRefusal, Shown};
-use mq_core::Core;
 use mq_disk::Disk;
 use mq_objects::{Command, Setting};
+use mq_receive::below::Core;
 
 /// The longest body of a message that a record keeps, in bytes.
 const LONGEST_BODY: u32 = 4_194_304;

@@ -1,18 +1,18 @@
 //! The queue manager and its calls.
 ghost use Rattle.std.specs.Prelude.{◌≡◌, ◌≤◌, [], false, Ok, IfErr, MatchResult, option_copied, option_map};
 ghost use Rattle.mq_calls.specs.Words.{Meets, MeetsInRoom, is_up};
-ghost use Rattle.mq_core.specs.Values.{WritesLog, manager_of};
+ghost use Rattle.mq_receive.specs.from_core.Values.{WritesLog, manager_of};
 ghost use Rattle.mq_calls.specs.Words.{MeetsOrWants};
 ghost use Rattle.mq_spec_manager.specs.Commands.{command};
 ghost use Rattle.mq_spec_manager.specs.Stops.{advance_clock, cut, stop};
 ghost use Rattle.mq_spec_manager.specs.Triggers.{trigger_turn};
 ghost use Rattle.mq_spec_manager.specs.Agents.{IsUp, IsSenderHere, HasSeized, HasBatch, CanHold, CanPrepare, CanHarden, HasFreeRow, kept, stock, batch_row, next_row, seize, leave, set_bound, expire, hold_batch, release_batch, prepare, harden, discard, CanMove, CanReceive, move_row, receive};
-ghost use Rattle.mq_agents.specs.Ends.{by_agent, by_memory, by_seize, by_prepare, by_place, kept_of, place_and_message};
+ghost use Rattle.mq_receive.specs.from_agents.Ends.{by_agent, by_memory, by_seize, by_prepare, by_place, kept_of, place_and_message};
 ghost use Rattle.mq_steer.specs.Quiet.{quietly, Comes};
 ghost use Rattle.mq_spec_manager.specs.Words.{last_moment};
-ghost use Rattle.mq_restart.specs.Begun.{given_by, HasBegun, HasNotBegun, LeavesAsWas};
+ghost use Rattle.mq_restarts.specs.from_restart.Begun.{given_by, HasBegun, HasNotBegun, LeavesAsWas};
 ghost use Rattle.mq_law_image.specs.Values.{IsCommandText};
-ghost use Rattle.mq_restart.specs.Returned.{Passes, Stayed};
+ghost use Rattle.mq_restarts.specs.from_restart.Returned.{Passes, Stayed};
 ghost use Rattle.mq_restarts.specs.Backs.{IsBack};
 ghost use Rattle.mq_manager.specs.Due.{next_due};
 ghost use Rattle.mq_manager.specs.Facts.{IsWell, MayCount};
@@ -22,21 +22,19 @@ ghost use Rattle.mq_spec_manager.specs.Words.{mqconn, mqopen, mqclose, mqput, mq
 
 use crate::limit::command_that_fits;
 use crate::notes::{harden_note, log_is_bytes, prepare_named, receive_named};
-use mq_agents::Hardened;
 use mq_base::{ChName, NoMemory, QName};
 use mq_calls::{
     AgentStop, Answer, Appl, Delta, Get, GetAnswer, Halt, Hconn, Hobj, Note, Open, PlaceFault,
     PrepareFault, ScRefusal, SeizeFault, Sent, Shown,
 };
 use mq_codes::Reason;
-use mq_core::Core;
 use mq_disk::{Cutter, Disk};
 use mq_message::{Dest, Ident, Md, Message, Place};
 use mq_objects::{Command, Defs};
-use mq_restart::{LogRead, Unbegun, Unreturned};
+use mq_receive::below::{Core, Hardened};
 use mq_restarts::Back;
+use mq_restarts::below::{LogRead, LogTold, Unbegun, Unreturned};
 use mq_sync::{Stock, Unit};
-use mq_told::LogTold;
 use std::alloc::Global;
 use std::marker::Model;
 
@@ -54,7 +52,7 @@ pub struct Manager<D: Disk> {
 }
 
 impl<D: Disk> Model for Manager<D> {
-    ghost use Rattle.mq_core.specs.Values.{CoreValue};
+    ghost use Rattle.mq_receive.specs.from_core.Values.{CoreValue};
     ghost use Rattle.mq_manager.specs.Kept.{IsKept};
 
     ghost Value = { CoreValue };
@@ -90,7 +88,7 @@ impl<D: Disk> Manager<D> {
         ensures begun { MatchResult result (λ m. HasBegun D.tells (D.seen disk.inner) (D.faults disk.inner) (given_by number name.now max) moment m) (λ e. HasNotBegun D.tells (D.seen disk.inner) (given_by number name.now max) (D.faults disk.inner) e.fault (D.faults e.disk.inner)) }
         ensures left { D.tells → IfErr result (λ e. LeavesAsWas (D.may_leave disk.inner) (D.seen disk.inner) (given_by number name.now max) e.fault (D.may_leave e.disk.inner)) }
     {
-        match mq_restart::begin(alloc, number, name, disk, max, moment) {
+        match mq_restarts::below::begin(alloc, number, name, disk, max, moment) {
             Ok(core) => Ok(Manager {
                 core,
                 read: LogRead::Unread,
@@ -215,7 +213,7 @@ impl<D: Disk> Manager<D> {
         ensures meets { Meets (manager_of self.old) (mqget hc ho get.now until self.old.plain) result (manager_of self.new) }
         ensures told { WritesLog self.old (mqget hc ho get.now until self.old.plain) result self.new }
     {
-        mq_get::mqget(&mut self.core, hc, ho, get, until)
+        mq_receive::below::mqget(&mut self.core, hc, ho, get, until)
     }
 
     /// MQCMIT (MQI reference). It takes no memory.
@@ -337,7 +335,7 @@ impl<D: Disk> Manager<D> {
     pub fn kept(&self, channel: &ChName) -> Option<Hardened<'_>>
         ensures { kept_of (option_map (λ k. (option_copied k.sender, option_copied k.receiver)) result) ≡ kept channel.now self.now.plain }
     {
-        mq_agents::kept(&self.core, channel)
+        mq_receive::below::kept(&self.core, channel)
     }
 
     /// What a running sender sees of its queue. It takes no memory.
@@ -346,21 +344,21 @@ impl<D: Disk> Manager<D> {
         requires seized { HasSeized channel.now self.now.plain }
         ensures { result ≡ stock channel.now self.now.plain }
     {
-        mq_agents::stock(&self.core, channel)
+        mq_receive::below::stock(&self.core, channel)
     }
 
     /// The row of that number in the batch of a channel, from 1; none exactly where the batch has none. It takes no memory.
     pub fn batch_row(&self, channel: &ChName, index: u32) -> Option<&Message>
         ensures { option_copied result ≡ batch_row channel.now index self.now.plain }
     {
-        mq_agents::batch_row(&self.core, channel, index)
+        mq_receive::below::batch_row(&self.core, channel, index)
     }
 
     /// The first free row of a queue above a place; none exactly where there is none. It takes no memory.
     pub fn next_row(&self, queue: &QName, after: Option<Place>) -> Option<(Place, &Message)>
         ensures { option_map (λ r. (r.0, r.1.now)) result ≡ option_map place_and_message (next_row queue.now after self.now.plain) }
     {
-        mq_agents::next_row(&self.core, queue, after)
+        mq_receive::below::next_row(&self.core, queue, after)
     }
 
     /// A sender opens its transmission queue, alone: `BadQueue` where its definition names no local queue of USAGE(XMITQ),
@@ -375,7 +373,7 @@ impl<D: Disk> Manager<D> {
         ensures meets { MeetsOrWants (manager_of self.old) (seize channel.now self.old.plain) (by_seize result) (manager_of self.new) }
         ensures told { WritesLog self.old (seize channel.now self.old.plain) (by_seize result) self.new }
     {
-        mq_agents::seize(&mut self.core, channel)
+        mq_receive::below::seize(&mut self.core, channel)
     }
 
     /// A sender leaves its transmission queue. It takes no memory.
@@ -384,7 +382,7 @@ impl<D: Disk> Manager<D> {
         ensures meets { MeetsInRoom (manager_of self.old) (leave channel.now self.old.plain) (Ok tt) (manager_of self.new) }
         ensures told { WritesLog self.old (leave channel.now self.old.plain) (Ok tt) self.new }
     {
-        mq_agents::leave(&mut self.core, channel);
+        mq_receive::below::leave(&mut self.core, channel);
     }
 
     /// Whether a receiver is bound from now on; one that has hardened nothing never is. It takes no memory.
@@ -393,7 +391,7 @@ impl<D: Disk> Manager<D> {
         ensures meets { MeetsInRoom (manager_of self.old) (set_bound channel.now bound self.old.plain) (Ok tt) (manager_of self.new) }
         ensures told { WritesLog self.old (set_bound channel.now bound self.old.plain) (Ok tt) self.new }
     {
-        mq_agents::set_bound(&mut self.core, channel, bound);
+        mq_receive::below::set_bound(&mut self.core, channel, bound);
     }
 
     /// The expired free rows of the queue that a sender has seized leave it, behind one forced record where one of them lasts.
@@ -408,7 +406,7 @@ impl<D: Disk> Manager<D> {
         ensures meets { MeetsOrWants (manager_of self.old) (expire channel.now self.old.plain) (by_agent result) (manager_of self.new) }
         ensures told { WritesLog self.old (expire channel.now self.old.plain) (by_agent result) self.new }
     {
-        mq_agents::expire(&mut self.core, channel)
+        mq_receive::below::expire(&mut self.core, channel)
     }
 
     /// A sender holds the first free rows of its queue, at most so many, as the next unit; their number.
@@ -422,7 +420,7 @@ impl<D: Disk> Manager<D> {
         ensures meets { MeetsOrWants (manager_of self.old) (hold_batch channel.now unit.now most self.old.plain) (by_memory result) (manager_of self.new) }
         ensures told { WritesLog self.old (hold_batch channel.now unit.now most self.old.plain) (by_memory result) self.new }
     {
-        mq_agents::hold_batch(&mut self.core, channel, unit, most)
+        mq_receive::below::hold_batch(&mut self.core, channel, unit, most)
     }
 
     /// A batch that is not prepared is released: its rows are free again, at their places, with no backout counted. It takes no memory.
@@ -432,7 +430,7 @@ impl<D: Disk> Manager<D> {
         ensures meets { MeetsInRoom (manager_of self.old) (release_batch channel.now self.old.plain) (Ok tt) (manager_of self.new) }
         ensures told { WritesLog self.old (release_batch channel.now self.old.plain) (Ok tt) self.new }
     {
-        mq_agents::release_batch(&mut self.core, channel);
+        mq_receive::below::release_batch(&mut self.core, channel);
     }
 
     /// The batch of a channel becomes its unit in doubt, behind a forced record: `NoRoom` exactly where the log has no room for it.
@@ -514,7 +512,7 @@ impl<D: Disk> Manager<D> {
         ensures meets { MeetsOrWants (manager_of self.old) (move_row from.now ident.now to.now bare self.old.plain) (by_place result) (manager_of self.new) }
         ensures told { WritesLog self.old (move_row from.now ident.now to.now bare self.old.plain) (by_place result) self.new }
     {
-        mq_moves::move_row(&mut self.core, from, ident, to, bare)
+        mq_receive::below::move_row(&mut self.core, from, ident, to, bare)
     }
 
     /// A rule of the handler removes a row, behind a forced record where it lasts. It is not refused for want of room in the log.
@@ -528,6 +526,6 @@ impl<D: Disk> Manager<D> {
         ensures meets { MeetsOrWants (manager_of self.old) (discard from.now ident.now self.old.plain) (by_agent result) (manager_of self.new) }
         ensures told { WritesLog self.old (discard from.now ident.now self.old.plain) (by_agent result) self.new }
     {
-        mq_agents::discard(&mut self.core, from, ident)
+        mq_receive::below::discard(&mut self.core, from, ident)
     }
 }

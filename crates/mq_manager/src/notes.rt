@@ -4,18 +4,18 @@ ghost use Rattle.std.specs.Prelude.{◌≡◌, false};
 ghost use Rattle.std.specs.List.{AllByRecursion};
 ghost use Rattle.mq_frame.specs.Reading.{IsBytes};
 ghost use Rattle.mq_spec_manager.specs.Agents.{IsUp, CanHarden, CanPrepare, harden, prepare, receive};
-ghost use Rattle.mq_agents.specs.Ends.{by_agent, by_place, by_prepare};
+ghost use Rattle.mq_receive.specs.from_agents.Ends.{by_agent, by_place, by_prepare};
 ghost use Rattle.mq_law_manager.specs.Facts.{Sound, AreNamed};
-ghost use Rattle.mq_core.specs.Counting.{CanCount};
-ghost use Rattle.mq_core.specs.Values.{WritesLog, begun_call, manager_of};
+ghost use Rattle.mq_receive.specs.from_core.Counting.{CanCount};
+ghost use Rattle.mq_receive.specs.from_core.Values.{WritesLog, begun_call, manager_of};
 ghost use Rattle.mq_manager.specs.Reads.{IsEnding, has_name, is_ending, is_low, can_harden};
 
 use mq_base::ChName;
 use mq_calls::{AgentStop, Note, PlaceFault, PrepareFault};
-use mq_core::Core;
 use mq_disk::Disk;
 use mq_message::Message;
-use mq_restart::bodies_are_bytes;
+use mq_receive::below::Core;
+use mq_restarts::below::bodies_are_bytes;
 use mq_sync::{End, Unit};
 
 /// The first session that no restart would read.
@@ -105,7 +105,7 @@ pub fn prepare_named<D: Disk>(
         core.begin_call();
         return Err(PrepareFault::Stop(AgentStop::NoMemory));
     }
-    mq_agents::prepare(core, channel, last)
+    mq_receive::below::prepare(core, channel, last)
 }
 
 /// A receiver commits the messages of a unit; where the channel's name is blank, there is no memory for it.
@@ -142,23 +142,23 @@ fn harden_kind<D: Disk>(core: &mut Core<D>, channel: &ChName, note: &Note) -> Re
     ensures told { WritesLog core.old (harden channel.now note.now core.old.plain) (by_agent result) core.new }
 {
     match note {
-        Note::Session { partner, session } => mq_agents::harden_session(
+        Note::Session { partner, session } => mq_receive::below::harden_session(
             core, channel, partner, *session,
         ),
         Note::Resolved {
             unit,
             commit,
             operator,
-        } => mq_agents::harden_resolved(core, channel, unit, *commit, *operator),
+        } => mq_receive::below::harden_resolved(core, channel, unit, *commit, *operator),
         Note::Bound {
             partner,
             session,
             last,
-        } => mq_agents::harden_bound(core, channel, partner, *session, *last),
-        Note::Closed { session } => mq_agents::harden_closed(core, channel, *session),
+        } => mq_receive::below::harden_bound(core, channel, partner, *session, *last),
+        Note::Closed { session } => mq_receive::below::harden_closed(core, channel, *session),
         Note::SeqSet { end, last } => match end {
-            End::Sender => mq_agents::harden_last_sent(core, channel, *last),
-            End::Receiver => mq_agents::harden_last_received(core, channel, *last),
+            End::Sender => mq_receive::below::harden_last_sent(core, channel, *last),
+            End::Receiver => mq_receive::below::harden_last_received(core, channel, *last),
         },
     }
 }

@@ -6,43 +6,43 @@ use Rattle.std.specs.Str.{bytes_eq}
 use Rattle.mq_queue.proofs.Edits.{same_is}
 use Rattle.mq_calls.specs.State.{Queue as StateQueue}
 use Rattle.mq_calls.specs.Words.{Ident, Message, Row, Among, Plain, has_ident, same_ident, keep, kept_in, selects, queue_in, local_of, apply, place, try_trigger}
-use Rattle.mq_core.specs.Counting.{CanCount}
+use Rattle.mq_agents.specs.from_core.Counting.{CanCount}
 use Rattle.mq_calls.specs.State.Change.{Leave}
 use Rattle.mq_calls.specs.declared.state.Item.TheVariants.{Put}
 use Rattle.mq_log.specs.State.{LogState}
-use Rattle.mq_place.specs.States.{QueueState, queues_of, state_in, change_state, on_queues, expecting, unpended}
-use Rattle.mq_core.specs.Views.{PartsValue, plain_of}
-use Rattle.mq_core.specs.Ties.{TiedBut, Tied, EndsReady, IsReady, HasCounts, AreCounted, mode_is_up, state_lanes, pending_at, one_if, times_in_rows, times_in_queues, times_in_units}
-use Rattle.mq_core.specs.Placing.{with_states, put_in_place}
-use Rattle.mq_core.proofs.PlaceLaws.{name_is, same_name, ready, tied_placed, placed_view, seen_kept, pending_changed}
-use Rattle.mq_core.proofs.ForceLaws.{seen_on, times_on, times_keep}
-use Rattle.mq_core.proofs.PutLaws.{queues_same, kept_queue, waits_more, counts_low}
-use Rattle.mq_record.specs.Room.{Buffered}
+use Rattle.mq_agents.specs.from_place.States.{QueueState, queues_of, state_in, change_state, on_queues, expecting, unpended}
+use Rattle.mq_agents.specs.from_core.Views.{PartsValue, plain_of}
+use Rattle.mq_agents.specs.from_core.Ties.{TiedBut, Tied, EndsReady, IsReady, HasCounts, AreCounted, mode_is_up, state_lanes, pending_at, one_if, times_in_rows, times_in_queues, times_in_units}
+use Rattle.mq_agents.specs.from_core.Placing.{with_states, put_in_place}
+use Rattle.mq_agents.proofs.from_core.PlaceLaws.{name_is, same_name, ready, tied_placed, placed_view, seen_kept, pending_changed}
+use Rattle.mq_agents.proofs.from_core.ForceLaws.{seen_on, times_on, times_keep}
+use Rattle.mq_agents.proofs.from_core.PutLaws.{queues_same, kept_queue, waits_more, counts_low}
+use Rattle.mq_agents.specs.from_record.Room.{Buffered}
 use Rattle.mq_calls.specs.Words.{Noted, Part, note_of, Step, Do, Reason, Dest, ManagerValue, MeetsOrWants, apply_all, is_persistent, need}
 use Rattle.mq_calls.specs.declared.records.LogRecord.{LogRecord}
 use Rattle.mq_calls.specs.Meeting.Wants.{Anywhere}
 use Rattle.mq_spec_manager.specs.Words.{placed}
 use Rattle.mq_calls.specs.declared.records.LogRecord.TheVariants as records
 use Rattle.mq_calls.specs.declared.deltas.Did.TheVariants as did
-use Rattle.mq_core.specs.Forced.{IsForced, IsExpected}
+use Rattle.mq_agents.specs.from_core.Forced.{IsForced, IsExpected, given_back}
 use Rattle.mq_agents.specs.Removing.{removed_one}
-use Rattle.mq_moves.specs.Moving.{moved_step, given_back, downed_move}
+use Rattle.mq_moves.specs.Moving.{moved_step, downed_move}
 use Rattle.mq_base.specs.Outside.{Rose}
 use Rattle.mq_disk.specs.declared.cutter.Stop.{Stop}
 use Rattle.mq_disk.specs.declared.cutter.Stop.TheVariants as stops
 use Rattle.mq_log.specs.Force.{Stops}
 use Rattle.mq_calls.specs.declared.commands.Halt.TheVariants as halts
-use Rattle.mq_record.specs.Room.{with_piece}
-use Rattle.mq_record.specs.Records.{CanBeKept, record_bytes, moved_front}
+use Rattle.mq_agents.specs.from_record.Room.{with_piece}
+use Rattle.mq_agents.specs.from_record.Records.{CanBeKept, record_bytes, moved_front}
 use Rattle.mq_frame.specs.Frames.{message_bytes}
 use Rattle.mq_calls.specs.Words.{freeze, logged, put_bytes, is_int, route_size}
 use Rattle.mq_calls.specs.declared.commands.Halt.{Halt}
-use Rattle.mq_core.specs.declared.parts.StoppedWrite.TheVariants as writes
-use Rattle.mq_core.specs.Views.{frozen_of, noted}
-use Rattle.mq_core.proofs.ForceLaws.{forced_view, frozen_view, tied_downed}
-use Rattle.mq_core.proofs.PutLaws.{expected_view, given_up, tied_roomier, roomier_view}
-use Rattle.mq_core.specs.Values.{CoreValue, WritesLog, AreRecords, behind_record, pending_record, wrote_all}
-use Rattle.mq_core.specs.Writes.{FitsRecord}
+use Rattle.mq_agents.specs.from_core.StoppedWriteVariants as writes
+use Rattle.mq_agents.specs.from_core.Views.{frozen_of, noted}
+use Rattle.mq_agents.proofs.from_core.ForceLaws.{forced_view, frozen_view, tied_downed}
+use Rattle.mq_agents.proofs.from_core.PutLaws.{expected_view, given_up, tied_roomier, roomier_view}
+use Rattle.mq_agents.specs.from_core.Values.{CoreValue, WritesLog, AreRecords, behind_record, pending_record, wrote_all}
+use Rattle.mq_agents.specs.from_core.Writes.{FitsRecord}
 use Rattle.mq_agents.proofs.WriteLaws.{wrote_as, broke_as, broke_told}
 use Rattle.mq_agents.proofs.RemoveLaws.{removed_view}
 use Rattle.mq_agents.proofs.EndLaws.{free_as}
@@ -72,7 +72,7 @@ left_none from i (row ∷ rows) = by (same_ident row.message.ident i) refl (left
     by true e rest = rest
     by false e rest = let none = ap one_if e in omega (arith, none, rest)
 
-left_out : (from : List ℕ) (i : Ident) (qs : List QueueState) → times_in_queues i (queues_of (on_queues (kept_in (Among from (i ∷ []))) qs)) + times_in_rows i (queue_in from (queues_of qs)).rows ≤ times_in_queues i (queues_of qs)
+pub left_out : (from : List ℕ) (i : Ident) (qs : List QueueState) → times_in_queues i (queues_of (on_queues (kept_in (Among from (i ∷ []))) qs)) + times_in_rows i (queue_in from (queues_of qs)).rows ≤ times_in_queues i (queues_of qs)
 left_out from i [] = omega arith
 left_out from i (s ∷ ss) = by (bytes_eq from s.queue.name) refl (left_out from i ss) (times_on i (kept_in (Among from (i ∷ []))) (λ q. times_keep i (λ (row : Row). not (selects (Among from (i ∷ [])) q.name row)) q.rows) ss)
   where

@@ -1,2 +1,3 @@
 pub mod Moving
 pub mod Landed
+pub mod from_agents

@@ -1,28 +1,17 @@
 //! Where a message is put by a route: what refuses it at the end of the route, and how it stands there.
 ghost use Rattle.std.specs.Prelude.{◌≡◌, ◌+◌, ◌<◌, ◌^◌, None, nat_le};
 ghost use Rattle.mq_calls.specs.Words.{depth, refusal};
-ghost use Rattle.mq_spec_manager.specs.Words.{is_unfit, output_only, queue_at};
+ghost use Rattle.mq_spec_manager.specs.Words.{queue_at};
 ghost use Rattle.mq_spec_manager.specs.Agents.{route_tests};
-ghost use Rattle.mq_core.specs.Views.{plain_of};
-ghost use Rattle.mq_core.specs.Ties.{Tied};
+ghost use Rattle.mq_agents.specs.from_core.Views.{plain_of};
+ghost use Rattle.mq_agents.specs.from_core.Ties.{Tied};
 ghost use Rattle.mq_moves.specs.Landed.{route_by, tests_at};
 
+use mq_agents::below::{Parts, is_inhibited, is_unfit_output, max_depth, max_length, queue_at};
 use mq_base::QName;
 use mq_codes::Reason;
-use mq_core::Parts;
 use mq_disk::Disk;
-use mq_fill::{is_inhibited, max_depth, max_length, queue_at};
 use mq_resolve::{PathStep, RouteEnd};
-
-/// The route ends at a transmission queue that is named as an ordinary one.
-fn is_unfit_output<D: Disk>(parts: &Parts<D>, end: &RouteEnd) -> bool
-    ensures { result ≡ is_unfit output_only end.now (plain_of parts.now) }
-{
-    match end {
-        RouteEnd::Local(queue) => parts.is_transmission_queue(queue),
-        RouteEnd::Via { .. } => false,
-    }
-}
 
 /// A queue of so many messages, and so many more, has as many as it may.
 fn is_at_most(most: u32, depth: u64, more: u64) -> bool

@@ -1,6 +1,7 @@
 //! A row that a rule of the dead-letter handler moves, and what refuses a message at the end of its route.
 #![tactic(auto)]
 
+pub mod below;
 mod landing;
 mod moving;
 mod rules;

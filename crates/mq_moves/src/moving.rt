@@ -1,43 +1,22 @@
 //! A rule of the dead-letter handler moves a row: it goes from one queue and stands on another by one forced write.
-ghost use Rattle.std.specs.Prelude.{◌≡◌, ◌+◌, ◌<◌, ◌≤◌, ◌^◌, true, false, length, IsSome, OnOk, OnErr};
+ghost use Rattle.std.specs.Prelude.{◌≡◌, ◌+◌, ◌<◌, ◌≤◌, ◌^◌, true, false, length};
 ghost use Rattle.mq_calls.specs.declared.records.LogRecord.TheVariants as records;
-ghost use Rattle.mq_calls.specs.Words.{MeetsOrWants, is_persistent, local_of, need, record_size};
-ghost use Rattle.mq_core.specs.Counting.{CanCount};
-ghost use Rattle.mq_spec_manager.specs.Agents.{IsUp, HasFreeRow};
-ghost use Rattle.mq_record.specs.Records.{CanBeKept};
-ghost use Rattle.mq_core.specs.Ties.{IsReady};
-ghost use Rattle.mq_core.specs.Forced.{IsExpected, IsForced, HasMoreRoom};
-ghost use Rattle.mq_core.specs.Placing.{put_in_place};
-ghost use Rattle.mq_agents.specs.Ends.{by_place};
+ghost use Rattle.mq_calls.specs.Words.{is_persistent, need, record_size};
+ghost use Rattle.mq_agents.specs.from_record.Records.{CanBeKept};
+ghost use Rattle.mq_agents.specs.from_core.Ties.{IsReady};
+ghost use Rattle.mq_agents.specs.from_core.Forced.{IsForced};
+ghost use Rattle.mq_agents.specs.from_core.Placing.{put_in_place};
 ghost use Rattle.mq_agents.specs.Removing.{removed_one};
-ghost use Rattle.mq_moves.specs.Moving.{downed_move, given_back, moved_step};
-ghost use Rattle.mq_core.specs.Values.{manager_of, WritesLog};
+ghost use Rattle.mq_moves.specs.Moving.{CanMoveTo, MakesMove, downed_move};
 
+use mq_agents::below::{
+    Core, Parts, StoppedWrite, can_be_kept, make_put_room, moved_front, put_bytes, return_room,
+};
 use mq_agents::{agent_stop, go_down};
 use mq_base::{NoMemory, QName};
 use mq_calls::{AgentStop, Did, PlaceFault};
-use mq_core::{Core, Parts, StoppedWrite, put_bytes};
 use mq_disk::{Disk, Stop};
 use mq_message::{Dest, Ident, Message};
-use mq_record::moved_front;
-use mq_unit::{Effects, can_be_kept};
-
-/// Takes all the memory of a move: for its row, for so many bytes of the log, for what is told.
-fn make_move_room<D: Disk>(
-    parts: &mut Parts<D>,
-    effects: &mut Effects,
-    to: &QName,
-    need: u64,
-) -> Result<(), NoMemory>
-    ensures ok { OnOk result (IsExpected to.now need parts.old parts.new) }
-    ensures err { OnErr result (HasMoreRoom parts.old parts.new) }
-    ensures dids { effects.new.dids ≡ effects.old.dids }
-    ensures room { OnOk result (1 ≤ effects.new.room) }
-{
-    effects.reserve(1)?;
-    parts.expect_put(to, need)?;
-    Ok(())
-}
 
 /// A row goes from its queue, and a message takes its last place on another, for which it waited. It takes no memory.
 fn swap_rows<D: Disk>(
@@ -63,16 +42,12 @@ fn move_free<D: Disk>(
     to: &QName,
     message: Message,
 ) -> Result<(), PlaceFault>
-    requires up { IsUp core.old.plain }
-    requires low { CanCount core.old.plain }
-    requires there { IsSome (local_of to.now core.old.plain.definitions) }
-    requires row { HasFreeRow from.now message.ident core.old.plain }
+    requires may { CanMoveTo from.now to.now message core.old.plain }
     requires free { is_persistent message ≡ false }
-    ensures meets { MeetsOrWants (manager_of core.old) (moved_step from.now target.now bare to.now message) (by_place result) (manager_of core.new) }
-    ensures told { WritesLog core.old (moved_step from.now target.now bare to.now message) (by_place result) core.new }
+    ensures { MakesMove from.now target.now bare to.now message core.old result core.new }
 {
     core.begin_call();
-    match make_move_room(&mut core.parts, &mut core.effects, to, 0) {
+    match make_put_room(&mut core.parts, &mut core.effects, to, 0) {
         Ok(()) => {}
         Err(NoMemory) => return Err(PlaceFault::Stop(AgentStop::NoMemory)),
     }
@@ -132,15 +107,6 @@ fn give_move_up<D: Disk>(
     );
 }
 
-/// The room of a record is given back.
-fn return_room<D: Disk>(parts: &mut Parts<D>, need: u64)
-    requires { need ≤ parts.old.body.room + length parts.old.body.bytes }
-    ensures { parts.new ≡ given_back need parts.old }
-{
-    parts.body.clear();
-    parts.body.give_back(need as usize);
-}
-
 /// A message that lasts moves behind one forced record, in which it goes from its queue and stands on the other.
 fn move_forced<D: Disk>(
     core: &mut Core<D>,
@@ -150,17 +116,13 @@ fn move_forced<D: Disk>(
     to: &QName,
     message: Message,
 ) -> Result<(), PlaceFault>
-    requires up { IsUp core.old.plain }
-    requires low { CanCount core.old.plain }
-    requires there { IsSome (local_of to.now core.old.plain.definitions) }
-    requires row { HasFreeRow from.now message.ident core.old.plain }
+    requires may { CanMoveTo from.now to.now message core.old.plain }
     requires kept { CanBeKept message }
-    ensures meets { MeetsOrWants (manager_of core.old) (moved_step from.now target.now bare to.now message) (by_place result) (manager_of core.new) }
-    ensures told { WritesLog core.old (moved_step from.now target.now bare to.now message) (by_place result) core.new }
+    ensures { MakesMove from.now target.now bare to.now message core.old result core.new }
 {
     core.begin_call();
     let need = 71 + put_bytes(&message);
-    match make_move_room(&mut core.parts, &mut core.effects, to, need) {
+    match make_put_room(&mut core.parts, &mut core.effects, to, need) {
         Ok(()) => {}
         Err(NoMemory) => return Err(PlaceFault::Stop(AgentStop::NoMemory)),
     }
@@ -195,12 +157,8 @@ pub(crate) fn move_message<D: Disk>(
     to: &QName,
     message: Message,
 ) -> Result<(), PlaceFault>
-    requires up { IsUp core.old.plain }
-    requires low { CanCount core.old.plain }
-    requires there { IsSome (local_of to.now core.old.plain.definitions) }
-    requires row { HasFreeRow from.now message.ident core.old.plain }
-    ensures meets { MeetsOrWants (manager_of core.old) (moved_step from.now target.now bare to.now message) (by_place result) (manager_of core.new) }
-    ensures told { WritesLog core.old (moved_step from.now target.now bare to.now message) (by_place result) core.new }
+    requires { CanMoveTo from.now to.now message core.old.plain }
+    ensures { MakesMove from.now target.now bare to.now message core.old result core.new }
 {
     if message.md.persistence != 1 {
         return move_free(core, from, target, bare, to, message);

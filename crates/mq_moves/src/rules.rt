@@ -1,23 +1,22 @@
 //! A row goes to the end of a rule's route: what refuses it, in order, and the message as it stands there.
 ghost use Rattle.std.specs.Prelude.{◌≡◌, ◌<◌, ◌^◌, ℕ, List, true, Some, None, drop, length, IfOk};
 ghost use Rattle.mq_calls.specs.Words.{MeetsOrWants, stored};
-ghost use Rattle.mq_core.specs.Counting.{CanCount};
+ghost use Rattle.mq_agents.specs.from_core.Counting.{CanCount};
 ghost use Rattle.mq_spec_manager.specs.Words.{is_dead};
 ghost use Rattle.mq_spec_manager.specs.Agents.{IsUp, CanMove, bare_if, row_with, move_full, move_row};
-ghost use Rattle.mq_core.specs.Views.{plain_of};
-ghost use Rattle.mq_core.specs.Ties.{Tied};
+ghost use Rattle.mq_agents.specs.from_core.Views.{plain_of};
+ghost use Rattle.mq_agents.specs.from_core.Ties.{Tied};
 ghost use Rattle.mq_agents.specs.Ends.{by_place};
 ghost use Rattle.mq_moves.specs.Landed.{Moves, at_end, message_moved};
-ghost use Rattle.mq_core.specs.Values.{manager_of, WritesLog};
+ghost use Rattle.mq_agents.specs.from_core.Values.{manager_of, WritesLog};
 
 use crate::landing::refused_at;
 use crate::moving::move_message;
+use mq_agents::below::{Core, Parts, dest_at, put_bytes, queue_at};
 use mq_base::{Items, NoMemory, QName};
 use mq_calls::{AgentStop, PlaceFault};
 use mq_codes::Reason;
-use mq_core::{Core, Parts, put_bytes};
 use mq_disk::Disk;
-use mq_fill::{dest_at, queue_at};
 use mq_heads::dlh_of;
 use mq_message::{Bytes, Dest, Ident, Md, Message};
 use mq_resolve::{RouteEnd, resolve};

@@ -5,7 +5,7 @@ use Rattle.std.proofs.lemmas.Bool.Decides.{nat_tests}
 use Rattle.mq_calls.specs.Words.{Message, Plain, connection_at, is_int, is_persistent}
 use Rattle.mq_calls.specs.declared.state.Connection.{Connection}
 use Rattle.mq_spec_manager.specs.Words.{for_connection, live_or}
-use Rattle.mq_record.specs.Records.{CanBeKept}
+use Rattle.mq_core.specs.from_record.Records.{CanBeKept}
 use Rattle.mq_mqi.specs.declared.drafts.Letter.{Letter}
 use Rattle.mq_core.specs.Calls.{at_number}
 use Rattle.mq_core.specs.Calls.{now_step, unit_step}

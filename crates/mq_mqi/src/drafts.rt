@@ -1,7 +1,7 @@
 //! The refusals of MQPUT and MQPUT1 in their order.
 ghost use Rattle.std.specs.Prelude.{◌≡◌, ◌+◌, ◌<◌, ◌≤◌, ◌^◌, ℕ, List, None, length, IfSome, ◌-◌, true};
 ghost use Rattle.mq_calls.specs.Words.{Message, depth, is_full, is_up, put_bytes, refusal, route_size};
-ghost use Rattle.mq_spec_manager.specs.Words.{is_bad_expiry, sync_full, put_need, log_full, next_ident, new_message, output_only, is_unfit, mqput, mqput1, is_high};
+ghost use Rattle.mq_spec_manager.specs.Words.{is_bad_expiry, put_need, log_full, next_ident, new_message, mqput, mqput1, is_high};
 ghost use Rattle.mq_fill.specs.Drafts.{message_of};
 ghost use Rattle.mq_core.specs.Views.{plain_of};
 ghost use Rattle.mq_core.specs.Ties.{Tied};
@@ -10,10 +10,10 @@ ghost use Rattle.mq_mqi.specs.Puts.{Posts, Puts, options_tests, definitions_test
 use mq_base::QName;
 use mq_calls::{Hconn, Hobj};
 use mq_codes::Reason;
-use mq_core::Parts;
+use mq_core::below::Seat;
+use mq_core::{Parts, is_sync_full, is_unfit_output};
 use mq_disk::Disk;
 use mq_fill::{Draft, is_blank, is_inhibited, make_draft, max_depth, max_length, queue_at};
-use mq_handles::Seat;
 use mq_message::{Dest, Ident, Md};
 use mq_resolve::{PathStep, RouteEnd, resolve};
 
@@ -64,13 +64,6 @@ fn refused_by_options(md: &Md) -> Option<Reason>
         return Some(Reason::MissingReplyToQueue);
     }
     None
-}
-
-/// The unit has as many messages as it may.
-fn is_sync_full<D: Disk>(parts: &Parts<D>, sync: bool, seat: &Seat) -> bool
-    ensures { result ≡ sync_full sync seat.now (plain_of parts.now) }
-{
-    sync && parts.defs.manager().max_uncommitted as usize <= seat.unit().len()
 }
 
 /// What a persistent put takes of the log.
@@ -240,15 +233,6 @@ pub(crate) fn can_put<D: Disk>(
         body,
         sync,
     )
-}
-
-fn is_unfit_output<D: Disk>(parts: &Parts<D>, end: &RouteEnd) -> bool
-    ensures { result ≡ is_unfit output_only end.now (plain_of parts.now) }
-{
-    match end {
-        RouteEnd::Local(queue) => parts.is_transmission_queue(queue),
-        RouteEnd::Via { .. } => false,
-    }
 }
 
 /// The refusals of MQPUT1.

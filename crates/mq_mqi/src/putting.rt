@@ -1,10 +1,9 @@
 //! MQPUT and MQPUT1.
-ghost use Rattle.std.specs.Prelude.{◌≡◌, ◌≤◌, ◌<◌, ◌^◌, length, true, false, IsSome, IfSome, IfOk, OnOk, OnErr};
+ghost use Rattle.std.specs.Prelude.{◌≡◌, ◌≤◌, ◌<◌, ◌^◌, length, true, false, IsSome, IfSome, IfOk};
 ghost use Rattle.mq_calls.specs.Words.{Meets, connection_at, is_up, is_persistent, local_of, put_bytes};
 ghost use Rattle.mq_core.specs.Counting.{CanCount};
 ghost use Rattle.mq_spec_manager.specs.Words.{next_ident, sent_answer, is_high, mqput, mqput1};
-ghost use Rattle.mq_record.specs.Records.{CanBeKept};
-ghost use Rattle.mq_core.specs.Forced.{IsExpected, HasMoreRoom};
+ghost use Rattle.mq_core.specs.from_record.Records.{CanBeKept};
 ghost use Rattle.mq_core.specs.Calls.{now_step, unit_step};
 ghost use Rattle.mq_mqi.specs.Puts.{letter_at, letter_message, CanPost};
 ghost use Rattle.mq_core.specs.Values.{manager_of, WritesLog};
@@ -13,10 +12,9 @@ use crate::drafts::{Letter, can_put, can_put1};
 use mq_base::{Items, NoMemory, QName};
 use mq_calls::{Answer, Did, Halt, Hconn, Hobj, Sent};
 use mq_codes::Reason;
-use mq_core::{Core, Parts, put_bytes};
+use mq_core::{Core, make_put_room, put_bytes};
 use mq_disk::Disk;
 use mq_message::{Md, Message};
-use mq_unit::Effects;
 use std::alloc::Global;
 
 /// What a put gives back; a priority above 9 is warned of.
@@ -55,23 +53,6 @@ fn message_of(alloc: Global, letter: &Letter, body: &[u8]) -> Result<Message, No
         }),
         Err(_) => Err(NoMemory),
     }
-}
-
-/// Takes all the memory of a put outside units: for its row, for so many bytes of the log, for what is told.
-fn make_put_room<D: Disk>(
-    parts: &mut Parts<D>,
-    effects: &mut Effects,
-    queue: &QName,
-    need: u64,
-) -> Result<(), NoMemory>
-    ensures ok { OnOk result (IsExpected queue.now need parts.old parts.new) }
-    ensures err { OnErr result (HasMoreRoom parts.old parts.new) }
-    ensures dids { effects.new.dids ≡ effects.old.dids }
-    ensures room { OnOk result (1 ≤ effects.new.room) }
-{
-    effects.reserve(1)?;
-    parts.expect_put(queue, need)?;
-    Ok(())
 }
 
 /// A nonpersistent message is placed at once.

@@ -92,7 +92,7 @@ pub all_opened : (s : Scenario) (hs : List History) → flat_map all_of hs ≡ r
 all_opened s hs = sym (all_rows s 0 hs)
 
 -- Those that count.
-held_is : (s : Scenario) (ps : List Plain) (m : ℕ) (h : History) (by : Option Holder) → is_held_there s ps (plain_at s m h) by ≡ opened_held s ps (m + 1) h by
+pub held_is : (s : Scenario) (ps : List Plain) (m : ℕ) (h : History) (by : Option Holder) → is_held_there s ps (plain_at s m h) by ≡ opened_held s ps (m + 1) h by
 held_is s ps m h None = refl
 held_is s ps m h (Some (holders.Unit n)) = refl
 held_is s ps m h (Some (holders.Batch channel)) = refl

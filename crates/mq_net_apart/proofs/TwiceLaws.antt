@@ -5,17 +5,9 @@ use Rattle.std.proofs.lemmas.Bool.Decides.{nat_tests}
 use Rattle.std.proofs.lemmas.List.Sums.{count_by_more_yes, count_by_more_no}
 use Rattle.mq_message.specs.declared.message.Ident.{Ident}
 use Rattle.mq_queue.specs.Rows.{same_ident}
+use Rattle.mq_queue.proofs.Edits.{same_is, same_turned, same_self}
 use Rattle.mq_net_apart.specs.Twice.{met_in, twice_in, again_in}
 use Rattle.mq_net_apart.proofs.RowLaws.{take_all}
-
-ident_is : (a b : Ident) → same_ident a b ≡ true → a ≡ b
-ident_is a b e = grind (arith, nat_tests)
-
-same_sym : (a b : Ident) → same_ident a b ≡ same_ident b a
-same_sym a b = grind (arith, nat_tests)
-
-same_self : (a : Ident) → same_ident a a ≡ true
-same_self a = grind (arith, nat_tests)
 
 -- the count of one more
 count_yes : (xs : List Ident) (i : ℕ) (x k : Ident) → i < length xs → x ≡ get_or xs i x → same_ident k x ≡ true → count_by (same_ident k) (take (i + 1) xs) ≡ count_by (same_ident k) (take i xs) + 1
@@ -33,10 +25,10 @@ met_step xs i x k met now more before lt is = more k ∙ of (same_ident k x) ref
   where
     of : (t : Bool) → same_ident k x ≡ t → (same_ident x k || met k) ≡ met_in (take (i + 1) xs) k
     of true e =
-        ap (λ (b : Bool). b || met k) (same_sym x k ∙ e)
+        ap (λ (b : Bool). b || met k) (same_turned x k ∙ e)
         ∙ met_yes (count_by (same_ident k) (take i xs)) ∙ ap (nat_lt 0) (sym (count_yes xs i x k lt is e))
     of false e =
-        ap (λ (b : Bool). b || met k) (same_sym x k ∙ e)
+        ap (λ (b : Bool). b || met k) (same_turned x k ∙ e)
         ∙ before k ∙ ap (nat_lt 0) (sym (count_no xs i x k lt is e))
 
 -- one that was met stands twice, once it comes again
@@ -51,15 +43,15 @@ pub twice_step : (xs : List Ident) (i : ℕ) (x k : Ident) (met twice now : Iden
 twice_step xs i x k met twice now more met_before before lt is = more k ∙ of (met x) refl (same_ident k x) refl
   where
     same : same_ident k x ≡ true → met x ≡ nat_lt 0 (count_by (same_ident k) (take i xs))
-    same e = met_before x ∙ ap (λ (o : Ident). nat_lt 0 (count_by (same_ident o) (take i xs))) (sym (ident_is k x e))
+    same e = met_before x ∙ ap (λ (o : Ident). nat_lt 0 (count_by (same_ident o) (take i xs))) (sym (same_is k x e))
 
     of : (m : Bool) → met x ≡ m → (t : Bool) → same_ident k x ≡ t → again_in (not (not m)) x k (twice k) ≡ twice_in (take (i + 1) xs) k
     of true em true e =
-        ap (λ (b : Bool). b || twice k) (same_sym x k ∙ e)
+        ap (λ (b : Bool). b || twice k) (same_turned x k ∙ e)
         ∙ some_again (count_by (same_ident k) (take i xs)) (sym em ∙ same e)
         ∙ ap (nat_lt 1) (sym (count_yes xs i x k lt is e))
     of true em false e =
-        ap (λ (b : Bool). b || twice k) (same_sym x k ∙ e)
+        ap (λ (b : Bool). b || twice k) (same_turned x k ∙ e)
         ∙ before k ∙ ap (nat_lt 1) (sym (count_no xs i x k lt is e))
     of false em true e =
         none_again (count_by (same_ident k) (take i xs)) (twice k) (sym em ∙ same e) (before k)

@@ -1,2 +1,3 @@
 pub mod Opened
 pub mod Twice
+pub mod from_net_rows

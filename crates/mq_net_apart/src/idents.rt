@@ -15,7 +15,7 @@ use indexmap::IndexMap;
 use mq_base::{Items, NoMemory};
 use mq_history::{Apart, History, Scenario};
 use mq_message::Ident;
-use mq_shelves::{IdentKey, is_met};
+use mq_shelves::is_met;
 use std::alloc::Global;
 
 /// The incarnation up to which the log of a manager knew its idents.
@@ -47,7 +47,7 @@ fn newer_case(ident: &Ident, known: Option<u64>) -> Option<Apart>
 }
 
 /// Whether an ident counts twice.
-fn is_twice(standing: &[Ident], twice: &IndexMap<IdentKey, bool>, ident: &Ident) -> bool
+fn is_twice(standing: &[Ident], twice: &IndexMap<Ident, bool>, ident: &Ident) -> bool
     requires { (k : Ident) → is_met twice.now k ≡ nat_lt 1 (count_by (same_ident k) standing.now) }
     ensures { result ≡ nat_lt 1 (count_by (same_ident ident.now) standing.now) }
 {
@@ -60,7 +60,7 @@ fn ident_case(
     scenario: &Scenario,
     histories: &[History],
     standing: &[Ident],
-    twice: &IndexMap<IdentKey, bool>,
+    twice: &IndexMap<Ident, bool>,
     ident: &Ident,
 ) -> Option<Apart>
     requires { (k : Ident) → is_met twice.now k ≡ nat_lt 1 (count_by (same_ident k) standing.now) }
@@ -76,7 +76,7 @@ fn idents_apart(
     scenario: &Scenario,
     histories: &[History],
     standing: &[Ident],
-    twice: &IndexMap<IdentKey, bool>,
+    twice: &IndexMap<Ident, bool>,
     idents: &[Ident],
 ) -> Option<Apart>
     requires { (k : Ident) → is_met twice.now k ≡ nat_lt 1 (count_by (same_ident k) standing.now) }

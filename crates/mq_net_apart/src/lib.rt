@@ -1,6 +1,7 @@
 //! Whether the logs of a scenario's managers belong together.
 #![tactic(auto)]
 
+pub mod below;
 mod cables;
 mod hardened;
 mod idents;

@@ -8,10 +8,10 @@ ghost use Rattle.mq_net_apart.specs.Twice.{again_in};
 use indexmap::IndexMap;
 use mq_base::NoMemory;
 use mq_message::Ident;
-use mq_shelves::{IdentKey, meet};
+use mq_shelves::meet;
 use std::alloc::Global;
 
-fn put(twice: &mut IndexMap<IdentKey, bool>, ident: &Ident) -> Result<(), NoMemory>
+fn put(twice: &mut IndexMap<Ident, bool>, ident: &Ident) -> Result<(), NoMemory>
     ensures { OnOk result ((k : Ident) → is_met twice.new k ≡ (same_ident ident.now k || is_met twice.old k)) }
 {
     let _first = meet(twice, ident)?;
@@ -19,7 +19,7 @@ fn put(twice: &mut IndexMap<IdentKey, bool>, ident: &Ident) -> Result<(), NoMemo
 }
 
 /// An ident joins those that stand twice, if it came again.
-fn put_if(twice: &mut IndexMap<IdentKey, bool>, again: bool, ident: &Ident) -> Result<(), NoMemory>
+fn put_if(twice: &mut IndexMap<Ident, bool>, again: bool, ident: &Ident) -> Result<(), NoMemory>
     ensures { OnOk result ((k : Ident) → is_met twice.new k ≡ again_in again ident.now k (is_met twice.old k)) }
 {
     if again { put(twice, ident) } else { Ok(()) }
@@ -27,8 +27,8 @@ fn put_if(twice: &mut IndexMap<IdentKey, bool>, again: bool, ident: &Ident) -> R
 
 /// Notes an ident: the first time among those met, later among those that stand twice too.
 fn note(
-    met: &mut IndexMap<IdentKey, bool>,
-    twice: &mut IndexMap<IdentKey, bool>,
+    met: &mut IndexMap<Ident, bool>,
+    twice: &mut IndexMap<Ident, bool>,
     ident: &Ident,
 ) -> Result<(), NoMemory>
     ensures met { OnOk result ((k : Ident) → is_met met.new k ≡ (same_ident ident.now k || is_met met.old k)) }
@@ -40,11 +40,11 @@ fn note(
 }
 
 /// The idents that stand twice.
-pub fn twice_of(alloc: Global, idents: &[Ident]) -> Result<IndexMap<IdentKey, bool>, NoMemory>
+pub fn twice_of(alloc: Global, idents: &[Ident]) -> Result<IndexMap<Ident, bool>, NoMemory>
     ensures { IfOk result (λ twice. (k : Ident) → is_met twice k ≡ nat_lt 1 (count_by (same_ident k) idents.now)) }
 {
-    let mut met: IndexMap<IdentKey, bool> = IndexMap::new(alloc);
-    let mut twice: IndexMap<IdentKey, bool> = IndexMap::new(alloc);
+    let mut met: IndexMap<Ident, bool> = IndexMap::new(alloc);
+    let mut twice: IndexMap<Ident, bool> = IndexMap::new(alloc);
     for ident in idents {
         note(&mut met, &mut twice, ident)?;
     }

@@ -1,24 +1,15 @@
 -- Whether a row of an ident stands.
-use Rattle.std.proofs.Common.{ℕ, ◌≡◌, Bool, true, false, List, [], ◌∷◌, ◌++◌, Option, Some, None, refl, ap, ◌∙◌, arith}
-use Rattle.std.specs.Prelude.{find, map, is_some, ◌||◌, ◌==◌, ◌&&◌, if◌then◌else◌}
+use Rattle.std.proofs.Common.{◌≡◌, Bool, true, false, List, [], ◌∷◌, ◌++◌, Option, Some, None, refl, ap, ◌∙◌}
+use Rattle.std.specs.Prelude.{find, map, is_some, ◌||◌, if◌then◌else◌}
 use Rattle.std.specs.List.{list_any, flat_map}
-use Rattle.std.proofs.lemmas.Bool.Decides.{nat_tests}
 use Rattle.mq_queue.specs.declared.row.Row.{Row}
 use Rattle.mq_message.specs.declared.message.Ident.{Ident}
 use Rattle.mq_calls.specs.declared.image.Shelf.{Shelf}
 use Rattle.mq_queue.specs.Rows.{same_ident, has_ident}
+use Rattle.mq_queue.proofs.Edits.{same_turned}
 use Rattle.mq_spec_network.specs.Ledger.{row_in}
 
 -- Whether there is one.
-num_either : (m n : ℕ) → (m == n) ≡ (n == m)
-num_either m n = grind (arith, nat_tests)
-
-ident_either : (a b : Ident) → same_ident a b ≡ same_ident b a
-ident_either a b =
-    ap (λ (t : Bool). (t && (a.incarnation == b.incarnation)) && (a.number == b.number)) (num_either a.manager b.manager)
-    ∙ ap (λ (t : Bool). ((b.manager == a.manager) && t) && (a.number == b.number)) (num_either a.incarnation b.incarnation)
-    ∙ ap (λ (t : Bool). ((b.manager == a.manager) && (b.incarnation == a.incarnation)) && t) (num_either a.number b.number)
-
 found_here : (row : Row) (rows : List Row) (t : Bool) (o : Option Row) (later here : Bool) → (is_some o || later) ≡ here → (is_some (if t then Some row else o) || later) ≡ (t || here)
 found_here row rows true o later here e = refl
 found_here row rows false o later here e = e
@@ -27,7 +18,7 @@ found_in : (ident : Ident) (rows : List Row) (later : List Ident) → (is_some (
 found_in ident [] later = refl
 found_in ident (row ∷ rows) later =
     found_here row rows (has_ident ident row) (find (has_ident ident) rows) (list_any (same_ident ident) later) (list_any (same_ident ident) (map (λ (r : Row). r.message.ident) rows ++ later)) (found_in ident rows later)
-    ∙ ap (λ (t : Bool). t || list_any (same_ident ident) (map (λ (r : Row). r.message.ident) rows ++ later)) (ident_either row.message.ident ident)
+    ∙ ap (λ (t : Bool). t || list_any (same_ident ident) (map (λ (r : Row). r.message.ident) rows ++ later)) (same_turned row.message.ident ident)
 
 either : (ident : Ident) (ss : List Shelf) (o : Option Row) → is_some (elim o as (λ r. Option Row) [ None ↦ row_in ident ss | Some row ↦ Some row ]) ≡ (is_some o || is_some (row_in ident ss))
 either ident ss None = refl

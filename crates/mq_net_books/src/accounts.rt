@@ -5,7 +5,6 @@ ghost use Rattle.mq_calls.specs.declared.image.Shelf.{Shelf};
 ghost use Rattle.mq_queue.specs.declared.row.Row.{Row};
 ghost use Rattle.mq_queue.specs.Rows.{has_ident, is_persistent};
 ghost use Rattle.mq_resolve.specs.Resolved.{resolve};
-ghost use Rattle.mq_objects.specs.Slots.{present};
 ghost use Rattle.mq_spec_manager.specs.Commands.{definitions_after};
 ghost use Rattle.mq_spec_manager.specs.Stops.{last_moment};
 ghost use Rattle.mq_spec_manager.specs.Put.{message_put};
@@ -24,7 +23,9 @@ use mq_fill::{Draft, make_draft};
 use mq_history::ManagerPlaces;
 use mq_message::{Bytes, Ident, Md, Message};
 use mq_net_rows::Shelves;
-use mq_objects::{Command, Definitions, Defs, Delivery, LocalQueue, Object, Process};
+use mq_objects::{
+    Command, Definitions, Defs, Delivery, LocalQueue, Object, Process, copy_definitions,
+};
 use mq_queue::{Row, lane_at};
 use mq_resolve::{PathStep, Route, RouteEnd, resolve};
 use mq_sc_apply::apply;
@@ -73,29 +74,6 @@ fn defs_of(alloc: Global, definitions: &Definitions) -> Result<Defs, NoMemory>
         add_object(alloc, &mut defs, object)?;
     }
     Ok(defs)
-}
-
-fn copy_objects(alloc: Global, slots: &[Option<Object>]) -> Result<Items<Object>, NoMemory>
-    ensures { IfOk result (λ objects. objects ≡ present slots.now) }
-{
-    let mut objects = Items::new(alloc);
-    for slot in slots {
-        let Some(object) = slot else {
-            continue;
-        };
-        objects.push(object.try_clone(alloc)?)?;
-    }
-    Ok(objects)
-}
-
-/// A copy of the definitions, in order of definition.
-fn copy_definitions(alloc: Global, defs: &Defs) -> Result<Definitions, NoMemory>
-    ensures { IfOk result (λ d. d ≡ defs.now.definitions) }
-{
-    Ok(Definitions {
-        objects: copy_objects(alloc, defs.slots())?,
-        manager: defs.manager().try_clone(alloc)?,
-    })
 }
 
 /// Whether a command was answered, and not refused for want of memory.

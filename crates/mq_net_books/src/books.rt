@@ -24,7 +24,7 @@ use mq_codes::Reason;
 use mq_history::Entry;
 use mq_message::{Bytes, Ident, Md, Message};
 use mq_objects::{Command, LocalQueue, Process};
-use mq_queue::Row;
+use mq_queue::{Row, is_persistent};
 use mq_resolve::{PathStep, Route, RouteEnd};
 use std::alloc::Global;
 use std::marker::Model;
@@ -412,7 +412,8 @@ impl<'a> Books<'a> {
     pub fn is_admitted(&self, message: &Message) -> bool
         ensures { result ≡ is_admitted self.now message.now }
     {
-        self.is_somewhere(&message.ident) || (!is_lasting(message) && !self.is_gone(&message.ident))
+        self.is_somewhere(&message.ident)
+            || (!is_persistent(message) && !self.is_gone(&message.ident))
     }
 
     /// Idents are taken from the places that they have, at whatever manager.
@@ -587,13 +588,6 @@ fn is_at(accounts: &[Account], ident: &Ident) -> bool
         None => false,
         Some(_) => true,
     }
-}
-
-/// Whether a message is persistent.
-fn is_lasting(message: &Message) -> bool
-    ensures { result ≡ is_persistent message.now }
-{
-    message.md.persistence == 1
 }
 
 fn take_everywhere(accounts: &mut Items<Account>, idents: &[Ident])

@@ -6,7 +6,7 @@ ghost use Rattle.mq_queue.specs.Rows.{same_ident};
 use indexmap::IndexMap;
 use mq_base::{Items, NoMemory};
 use mq_message::Ident;
-use mq_net_rows::{IdentKey, home_of, note_home};
+use mq_net_rows::{home_of, note_home};
 use std::alloc::Global;
 use std::marker::Model;
 
@@ -15,7 +15,7 @@ use std::marker::Model;
 pub struct Gone {
     idents: Items<Ident>,
     // Each of them, and no other.
-    known: IndexMap<IdentKey, usize>,
+    known: IndexMap<Ident, usize>,
 }
 
 impl Model for Gone {

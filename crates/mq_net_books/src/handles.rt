@@ -7,6 +7,7 @@ ghost use Rattle.mq_net_books.specs.Handles.{RiseSo};
 
 use mq_base::NoMemory;
 use mq_calls::Handle;
+use mq_handles::place_of_handle;
 use std::alloc::Global;
 use std::marker::Model;
 
@@ -32,29 +33,13 @@ impl Model for Handles {
     ghost invariant = { λ h. RiseSo h.rising h.last h.list.items };
 }
 
-/// The place of the handle of a number.
-fn place_of(handles: &[Handle], number: u64) -> Option<usize>
-    requires { AreRising handle_number handles.now }
-    ensures { result ≡ position (has_handle_number number) handles.now }
-{
-    let at = handles.partition_point(|handle| handle.number < number);
-    if at == handles.len() {
-        return None;
-    }
-    if handles[at].number == number {
-        Some(at)
-    } else {
-        None
-    }
-}
-
 /// The handle of a number, by halving.
 #[tactic(auto, using(mq_handles::proofs::SeatLaws::handle_none, mq_handles::proofs::SeatLaws::handle_within))]
 fn halve(handles: &[Handle], number: u64) -> Option<&Handle>
     requires { AreRising handle_number handles.now }
     ensures { option_copied result ≡ handle_at number handles.now }
 {
-    match place_of(handles, number) {
+    match place_of_handle(handles, number) {
         None => None,
         Some(at) => Some(&handles[at]),
     }

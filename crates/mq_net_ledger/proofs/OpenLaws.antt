@@ -1,16 +1,12 @@
 -- The ledger begins with the rows of the logs that count where they stand.
-use Rattle.std.proofs.Common.{ℕ, suc, ◌≡◌, ◌+◌, ◌≤◌, Bool, true, false, List, [], ◌∷◌, ◌++◌, Option, None, Some, refl, ap, sym, ◌∙◌, arith}
-use Rattle.std.specs.Prelude.{AllPairs, map, not, ◌&&◌, if◌then◌else◌}
+use Rattle.std.proofs.Common.{ℕ, suc, ◌≡◌, ◌+◌, ◌≤◌, Bool, true, false, List, [], ◌∷◌, ◌++◌, None, refl, ap, sym, ◌∙◌, arith}
+use Rattle.std.specs.Prelude.{AllPairs, map, not, if◌then◌else◌}
 use Rattle.std.specs.List.{list_any, AllByRecursion}
-use Rattle.std.specs.Str.{bytes_eq}
 use Rattle.std.proofs.lemmas.List.Elements.{recursion_from_All}
-use Rattle.std.specs.Cmp.Lexicographic.{bytes_decides}
-use Rattle.mq_message.specs.declared.place.Holder.{Holder}
 use Rattle.mq_message.specs.declared.place.Holder.TheVariants as holders
 use Rattle.mq_queue.specs.declared.row.Row.{Row}
 use Rattle.mq_objects.specs.declared.object.Object.{Object}
-use Rattle.mq_objects.specs.Names.{Space, same_space, is_object, space_of, name_of}
-use Rattle.mq_objects.specs.Names.Space.{Queues, Channels, Processes}
+use Rattle.mq_objects.specs.Names.{is_object, space_of, name_of}
 use Rattle.mq_calls.specs.declared.image.Shelf.{Shelf}
 use Rattle.mq_history.specs.declared.history.History.{History}
 use Rattle.mq_history.specs.declared.scenario.Scenario.{Scenario}
@@ -21,43 +17,14 @@ use Rattle.mq_calls.specs.Images.{numbered, queue_on}
 use Rattle.mq_spec_network.specs.Ledger.{Ledger, Users}
 use Rattle.mq_spec_network.specs.Standing.{node_after, managers_from, opening_managers, is_held_there, standing_in, stored_standing, places_of, opening_ledger}
 use Rattle.mq_net_apart.specs.Opened.{opened_held}
-use Rattle.mq_net_rows.specs.Stored.{AreFrom, AreInLanes, AreSorted}
+use Rattle.mq_net_apart.specs.from_net_rows.Stored.{AreFrom, AreInLanes, AreSorted}
 use Rattle.mq_net_books.specs.Openings.{AreNewFrom}
 use Rattle.mq_net_ledger.specs.Opened.{row_if, opened_rows, opened_shelf, opened_place, opened_places, opened_user, IsOpened}
 use Rattle.mq_rebuild.proofs.FrontLaws.{Fronts, fronts}
+use Rattle.mq_rebuild.proofs.ObjectLaws.{Differ, other_way}
+use Rattle.mq_net_apart.proofs.RowLaws.{held_is}
 
 -- Objects of an image: no one has the name of one before it.
-same_way : (a b : Space) → same_space a b ≡ true → same_space b a ≡ true
-same_way Queues Queues e = refl
-same_way Queues Channels e = absurd cc
-same_way Queues Processes e = absurd cc
-same_way Channels Queues e = absurd cc
-same_way Channels Channels e = refl
-same_way Channels Processes e = absurd cc
-same_way Processes Queues e = absurd cc
-same_way Processes Channels e = absurd cc
-same_way Processes Processes e = refl
-
-both : (a b : Bool) → (a && b) ≡ true → (a ≡ true) × (b ≡ true)
-both true true e = (refl, refl)
-both true false e = absurd cc
-both false b e = absurd cc
-
-abbrev Differ : Object → Object → Type 0
-Differ a b = is_object (space_of a) (name_of a) b ≡ false
-
-other_way : (a b : Object) → Differ a b → Differ b a
-other_way a b e = by (is_object (space_of b) (name_of b) a) refl
-  where
-    by : (t : Bool) → is_object (space_of b) (name_of b) a ≡ t → t ≡ false
-    by true t =
-        let h = both (same_space (space_of b) (space_of a)) (bytes_eq (name_of b) (name_of a)) t in
-        let n : name_of a ≡ name_of b = sym ((bytes_decides (name_of b) (name_of a)).0 h.1) in
-        let back : is_object (space_of a) (name_of a) b ≡ true =
-        rw (same_way (space_of b) (space_of a) h.0) ((bytes_decides (name_of a) (name_of b)).1 n) in
-        sym back ∙ e
-    by false t = refl
-
 none_before : (x : Object) (before : List Object) → AllByRecursion (λ (a : Object). Differ a x) before → list_any (is_object (space_of x) (name_of x)) before ≡ false
 none_before x [] h = refl
 none_before x (a ∷ before) h = rw (other_way a x h.0) (none_before x before h.1)
@@ -102,11 +69,6 @@ are_sorted s ps m h o = sorted_shelves s ps m h h.opening.shelves (recursion_fro
 -- The rows of a queue that count.
 abbrev plain_at : Scenario → ℕ → History → Plain
 plain_at s m h = (node_after s m [] h).manager
-
-held_is : (s : Scenario) (ps : List Plain) (m : ℕ) (h : History) (by : Option Holder) → is_held_there s ps (plain_at s m h) by ≡ opened_held s ps (m + 1) h by
-held_is s ps m h None = refl
-held_is s ps m h (Some (holders.Unit n)) = refl
-held_is s ps m h (Some (holders.Batch channel)) = refl
 
 kept_if : (held : Bool) (n : ℕ) (row : Row) (kept rows : List Row) → kept ≡ rows → (if not held then record row { place = record row.place { arrival = n + 1 } } ∷ kept else kept) ≡ row_if held n row ++ rows
 kept_if true n row kept rows e = e

@@ -1,20 +1,14 @@
 -- The reason of each ident is found where it is told first.
-use Rattle.std.proofs.Common.{ℕ, zero, suc, ◌≡◌, ◌+◌, Bool, true, false, eqb, cond, List, [], ◌∷◌, Option, Some, None, refl, ap, sym, ◌∙◌, arith, drop}
-use Rattle.std.specs.Prelude.{slice_get, ◌&&◌}
-use Rattle.std.proofs.lemmas.Bool.Decides.{nat_tests}
+use Rattle.std.proofs.Common.{ℕ, zero, suc, ◌≡◌, ◌+◌, Bool, true, false, cond, List, [], ◌∷◌, Option, Some, None, refl, ap, sym, ◌∙◌, arith, drop}
+use Rattle.std.specs.Prelude.{slice_get}
 use Rattle.mq_codes.specs.declared.reason.Reason.{Reason}
 use Rattle.mq_message.specs.declared.message.Ident.{Ident}
 use Rattle.mq_queue.specs.Rows.{same_ident}
+use Rattle.mq_queue.proofs.Edits.{same_turned}
 use Rattle.mq_calls.specs.declared.deltas.Did.{Did}
 use Rattle.mq_calls.specs.declared.deltas.Did.TheVariants as did
 use Rattle.mq_spec_network.specs.Ledger.{dead_reason}
 use Rattle.mq_net_ledger.specs.Reasons.{now_told, told_by, told_if, reason_of, reason_by, AreTo}
-
-swap : (a b : Ident) → same_ident a b ≡ same_ident b a
-swap a b = by a.manager b.manager a.incarnation b.incarnation a.number b.number
-  where
-    by : (m1 m2 i1 i2 n1 n2 : ℕ) → ((eqb m1 m2 && eqb i1 i2) && eqb n1 n2) ≡ ((eqb m2 m1 && eqb i2 i1) && eqb n2 n1)
-    by m1 m2 i1 i2 n1 n2 = grind (arith, nat_tests)
 
 -- the entry at a place stands in front of those behind it
 split : (ds : List Did) (n : ℕ) (d : Did) → slice_get ds n ≡ Some d → drop n ds ≡ d ∷ drop (suc n) ds
@@ -39,7 +33,7 @@ module _ (ds : List Did) (n : ℕ) (i : Ident) (home : Option ℕ) (before : rea
   placed other dead r here false true e = absurd cc
 
   by_entry : (d : Did) → slice_get ds n ≡ Some d → reason_by ds (now_told d n i home) ≡ dead_reason i (d ∷ drop (suc n) ds)
-  by_entry (did.Placed queue other dead) g = placed other dead None (ap reason_of g) (same_ident other i) (same_ident i other) (swap other i)
+  by_entry (did.Placed queue other dead) g = placed other dead None (ap reason_of g) (same_ident other i) (same_ident i other) (same_turned other i)
   by_entry (did.Removed a b c) g = before
   by_entry (did.Moved a b c d e) g = before
   by_entry (did.Held a b c) g = before

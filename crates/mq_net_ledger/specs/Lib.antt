@@ -4,3 +4,4 @@ pub mod Arrivals
 pub mod Opened
 pub mod Spots
 pub mod Reasons
+pub mod from_story

@@ -2,7 +2,7 @@
 ghost use Rattle.std.specs.Prelude.{◌≡◌, ◌++◌, OnOk, IfOk};
 ghost use Rattle.mq_message.specs.declared.message.Message.{Message};
 ghost use Rattle.mq_spec_network.specs.Ledger.{own_row, place_received, receive, received_on, receive_if, idents_of};
-ghost use Rattle.mq_net_rows.specs.Homes.{home_of};
+ghost use Rattle.mq_net_apart.specs.from_net_rows.Homes.{home_of};
 ghost use Rattle.mq_net_ledger.specs.Posts.{place_posted};
 ghost use Rattle.mq_net_ledger.specs.Reasons.{AreTold};
 ghost use Rattle.mq_net_ledger.specs.Arrivals.{arrival_of, arrivals_of, arrivals, place_arrivals};
@@ -16,7 +16,6 @@ use mq_base::{ChName, Items, NoMemory};
 use mq_calls::{Did, Messages};
 use mq_message::{Ident, Message};
 use mq_net_books::Books;
-use mq_net_rows::{IdentKey, copy_message};
 use std::alloc::Global;
 
 /// The content that the ledger has of a message that came, with the names that came; else what came.
@@ -24,7 +23,7 @@ fn own_row(books: &Books<'_>, alloc: Global, came: &Message) -> Result<Message, 
     ensures { IfOk result (λ m. m ≡ own_row books.now came.now) }
 {
     match books.row_at(&came.ident) {
-        None => copy_message(alloc, came),
+        None => Ok(came.try_clone(alloc)?),
         Some(row) => copy_with_route(alloc, &row.message, &came.route),
     }
 }
@@ -34,7 +33,7 @@ fn arrival_of(
     books: &Books<'_>,
     alloc: Global,
     delta: &[Did],
-    told: &IndexMap<IdentKey, usize>,
+    told: &IndexMap<Ident, usize>,
     message: &Message,
 ) -> Result<Arrival, NoMemory>
     requires { AreTold (home_of told.now) delta.now }
@@ -51,7 +50,7 @@ fn list_arrival(
     books: &Books<'_>,
     alloc: Global,
     delta: &[Did],
-    told: &IndexMap<IdentKey, usize>,
+    told: &IndexMap<Ident, usize>,
     message: &Message,
 ) -> Result<(), NoMemory>
     requires { AreTold (home_of told.now) delta.now }
@@ -69,7 +68,7 @@ fn list_arrivals(
     books: &Books<'_>,
     alloc: Global,
     delta: &[Did],
-    told: &IndexMap<IdentKey, usize>,
+    told: &IndexMap<Ident, usize>,
     messages: &[Message],
 ) -> Result<(), NoMemory>
     requires { AreTold (home_of told.now) delta.now }

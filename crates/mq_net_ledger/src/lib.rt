@@ -3,6 +3,7 @@
 
 mod answers;
 mod arriving;
+pub mod below;
 mod ledger;
 mod messages;
 mod opening;

@@ -5,7 +5,6 @@ ghost use Rattle.mq_spec_manager.specs.Moves.{bare_message, bare_if};
 use mq_base::NoMemory;
 use mq_heads::{Dlh, dlh_of};
 use mq_message::{Bytes, Dest, Message};
-use mq_net_rows::copy_message;
 use std::alloc::Global;
 
 /// A copy of a message with this route.
@@ -65,6 +64,6 @@ pub fn bare_if(alloc: Global, bare: bool, message: &Message) -> Result<Message, 
     if bare {
         bare_message(alloc, message)
     } else {
-        copy_message(alloc, message)
+        Ok(message.try_clone(alloc)?)
     }
 }

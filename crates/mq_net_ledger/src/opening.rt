@@ -10,7 +10,6 @@ use mq_history::{History, Scenario};
 use mq_message::Place;
 use mq_net_apart::is_held_there;
 use mq_net_books::{Account, Books, User};
-use mq_net_rows::copy_message;
 use mq_queue::Row;
 use std::alloc::Global;
 
@@ -19,7 +18,7 @@ fn numbered(alloc: Global, row: &Row, n: u64) -> Result<Row, NoMemory>
     requires { n < 2 ^ 64 - 1 }
     ensures { IfOk result (λ r. r ≡ record row.now { place = record row.now.place { arrival = n + 1 } }) }
 {
-    let message = copy_message(alloc, &row.message)?;
+    let message = row.message.try_clone(alloc)?;
     Ok(Row {
         place: Place {
             lane: row.place.lane,

@@ -1,7 +1,7 @@
 //! The reasons with which a delta tells idents as dead letters, found by ident.
 ghost use Rattle.std.specs.Prelude.{◌≡◌, OnOk, IfOk, option_copied};
 ghost use Rattle.mq_message.specs.declared.message.Ident.{Ident};
-ghost use Rattle.mq_net_rows.specs.Homes.{home_of};
+ghost use Rattle.mq_net_apart.specs.from_net_rows.Homes.{home_of};
 ghost use Rattle.mq_spec_network.specs.Ledger.{dead_reason};
 ghost use Rattle.mq_net_ledger.specs.Reasons.{now_told, told_if, reason_of, reason_by, AreTold};
 
@@ -10,11 +10,11 @@ use mq_base::NoMemory;
 use mq_calls::Did;
 use mq_codes::Reason;
 use mq_message::Ident;
-use mq_net_rows::{IdentKey, home_of, note_home};
+use mq_net_apart::below::{home_of, note_home};
 use std::alloc::Global;
 
 /// Notes where a delta tells an ident as placed.
-fn note(known: &mut IndexMap<IdentKey, usize>, did: &Did, at: usize) -> Result<(), NoMemory>
+fn note(known: &mut IndexMap<Ident, usize>, did: &Did, at: usize) -> Result<(), NoMemory>
     ensures { OnOk result ((i : Ident) → home_of known.new i ≡ now_told did.now at i (home_of known.old i)) }
 {
     match did {
@@ -24,7 +24,7 @@ fn note(known: &mut IndexMap<IdentKey, usize>, did: &Did, at: usize) -> Result<(
 }
 
 /// The same of the entry at a place, if there is one.
-fn note_at(known: &mut IndexMap<IdentKey, usize>, delta: &[Did], at: usize) -> Result<(), NoMemory>
+fn note_at(known: &mut IndexMap<Ident, usize>, delta: &[Did], at: usize) -> Result<(), NoMemory>
     ensures { OnOk result ((i : Ident) → home_of known.new i ≡ told_if delta.now at i (home_of known.old i)) }
 {
     match delta.get(at) {
@@ -34,10 +34,10 @@ fn note_at(known: &mut IndexMap<IdentKey, usize>, delta: &[Did], at: usize) -> R
 }
 
 /// Where a delta tells each ident as placed for the first time.
-pub fn places_told(alloc: Global, delta: &[Did]) -> Result<IndexMap<IdentKey, usize>, NoMemory>
+pub fn places_told(alloc: Global, delta: &[Did]) -> Result<IndexMap<Ident, usize>, NoMemory>
     ensures { IfOk result (λ known. AreTold (home_of known) delta.now) }
 {
-    let mut known: IndexMap<IdentKey, usize> = IndexMap::new(alloc);
+    let mut known: IndexMap<Ident, usize> = IndexMap::new(alloc);
     let mut left = delta.len();
     'noting: while 0 < left {
         left -= 1;
@@ -65,11 +65,7 @@ fn reason_at(delta: &[Did], place: Option<usize>) -> Option<Reason>
 }
 
 /// The reason with which a delta tells an ident as a dead letter.
-pub fn dead_reason(
-    delta: &[Did],
-    known: &IndexMap<IdentKey, usize>,
-    ident: &Ident,
-) -> Option<Reason>
+pub fn dead_reason(delta: &[Did], known: &IndexMap<Ident, usize>, ident: &Ident) -> Option<Reason>
     requires { AreTold (home_of known.now) delta.now }
     ensures { result ≡ dead_reason ident.now delta.now }
 {

@@ -1,6 +1,7 @@
 //! The report of a run: its scripts line by line, its steps, and how queues, channels and the ledger stand at the end.
 #![tactic(auto)]
 
+pub mod below;
 mod lines;
 mod marks;
 mod report;

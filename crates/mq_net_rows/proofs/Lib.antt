@@ -1,4 +1,3 @@
-mod KeyLaws
 mod LaneLaws
 mod QueueLaws
 mod SeatLaws

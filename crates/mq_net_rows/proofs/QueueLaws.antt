@@ -1,6 +1,6 @@
 -- Queues over one store: a row more on one of them, rows that stay, and where the row of an ident stands.
-use Rattle.std.proofs.Common.{ℕ, zero, suc, ◌≡◌, ◌+◌, ◌<◌, ◌≤◌, Bool, true, false, eqb, cond, List, [], ◌∷◌, ◌++◌, Option, Some, None, refl, ap, sym, subst, ◌∙◌, arith, length, drop}
-use Rattle.std.specs.Prelude.{nat_le, map, find, not, reverse, position, slice_get, slice_set, is_some, Result, Ok, Err, OnOk, ◌||◌, ◌==◌, ◌&&◌, if◌then◌else◌}
+use Rattle.std.proofs.Common.{ℕ, zero, suc, ◌≡◌, ◌+◌, ◌<◌, ◌≤◌, Bool, true, false, cond, List, [], ◌∷◌, ◌++◌, Option, Some, None, refl, ap, sym, subst, ◌∙◌, arith, length, drop}
+use Rattle.std.specs.Prelude.{nat_le, map, find, not, reverse, position, slice_get, slice_set, is_some, Result, Ok, Err, OnOk, ◌||◌, ◌==◌, if◌then◌else◌}
 use Rattle.std.specs.List.{list_any}
 use Rattle.std.specs.Str.{bytes_eq}
 use Rattle.std.proofs.lemmas.List.{reverse-append}
@@ -8,6 +8,7 @@ use Rattle.std.proofs.lemmas.Bool.Decides.{nat_tests}
 use Rattle.mq_message.specs.declared.message.Ident.{Ident}
 use Rattle.mq_queue.specs.declared.row.Row.{Row}
 use Rattle.mq_queue.specs.Rows.{insert_row, keep, same_ident, has_ident}
+use Rattle.mq_queue.proofs.Edits.{same_is, same_turned, same_self}
 use Rattle.mq_calls.specs.declared.image.Shelf.{Shelf}
 use Rattle.mq_message.specs.declared.message.Message.{Message}
 use Rattle.mq_calls.specs.Changes.{new_row}
@@ -15,7 +16,7 @@ use Rattle.mq_spec_network.specs.Ledger.{leave_queues, row_in, change_at, put_in
 use Rattle.mq_net_rows.specs.declared.lanes.Lane.{Lane}
 use Rattle.mq_net_rows.specs.declared.lanes.Named.{Named}
 use Rattle.mq_net_rows.specs.Stored.{row_at, row_list, rows_of, lanes_rows, queues_find, leave_some, shelf_of, shelves_of, kept_slot, kept_at, put_slot, seat_on, AreQueues, AreNoted, on_lanes, on_queues, AreListed, IsStore, its_row, put_row, put_rows, AreInLanes, AreFrom, AreSorted, leave_each}
-use Rattle.mq_net_rows.proofs.StoreLaws.{only_one, none_one, ident_is, ident_self, row_either, row_was, row_stays, set_last}
+use Rattle.mq_net_rows.proofs.StoreLaws.{only_one, none_one, row_either, row_was, row_stays, set_last}
 use Rattle.mq_net_rows.proofs.LaneLaws.{AreUpTo, same_lanes, more_lanes, placed, placed_lanes, lane_lists, lane_lists_still, lanes_found, kept_lanes, kept_lanes_are}
 
 -- Rows that stay.
@@ -39,18 +40,12 @@ pub forgotten_store : (store : List (Option Row)) (qs : List Named) (home now : 
     → IsStore (map (kept_slot (λ (row : Row). not (has_ident ident row))) store) qs home doubled → IsStore (map (kept_slot (λ (row : Row). not (has_ident ident row))) store) qs now doubled
 forgotten_store store qs home now doubled ident same s = (s.0, λ once k row e. noted k row (s.1 once k row e) (row_stays (λ (row : Row). not (has_ident ident row)) store k row e), s.2)
   where
-    either : (a b : Ident) → same_ident a b ≡ same_ident b a
-    either a b = by a.manager b.manager a.incarnation b.incarnation a.number b.number
-      where
-        by : (m1 m2 i1 i2 n1 n2 : ℕ) → ((eqb m1 m2 && eqb i1 i2) && eqb n1 n2) ≡ ((eqb m2 m1 && eqb i2 i1) && eqb n2 n1)
-        by m1 m2 i1 i2 n1 n2 = grind (arith, nat_tests)
-
     other : (b : Bool) → not b ≡ true → b ≡ false
     other true e = absurd cc
     other false e = refl
 
     noted : (k : ℕ) (row : Row) → home row.message.ident ≡ Some k → not (has_ident ident row) ≡ true → now row.message.ident ≡ Some k
-    noted k row h n = same row.message.ident ∙ ap (λ (b : Bool). cond b None (home row.message.ident)) (either ident row.message.ident ∙ other (has_ident ident row) n) ∙ h
+    noted k row h n = same row.message.ident ∙ ap (λ (b : Bool). cond b None (home row.message.ident)) (same_turned ident row.message.ident ∙ other (has_ident ident row) n) ∙ h
 
 -- A row more.
 module _ (store : List (Option Row)) (row : Row) where
@@ -121,17 +116,11 @@ module _ (store : List (Option Row)) (row : Row) where
       → IsStore store qs home doubled → IsStore (store ++ Some row ∷ []) (change_at at (seat_on row.place.lane (length store)) qs) now twice
   put_store qs at home now doubled twice lt notes less apart s = (put_queues qs at s.0, noted, listed)
     where
-      either : (a b : Ident) → same_ident a b ≡ same_ident b a
-      either a b = by a.manager b.manager a.incarnation b.incarnation a.number b.number
-        where
-          by : (m1 m2 i1 i2 n1 n2 : ℕ) → ((eqb m1 m2 && eqb i1 i2) && eqb n1 n2) ≡ ((eqb m2 m1 && eqb i2 i1) && eqb n2 n1)
-          by m1 m2 i1 i2 n1 n2 = grind (arith, nat_tests)
-
       noted : twice ≡ false → AreNoted now (store ++ Some row ∷ [])
       noted once k x e = row_either store (Some row) k x e
-          (λ lt e. notes x.message.ident ∙ ap (λ (b : Bool). cond b (Some (length store)) (home x.message.ident)) (either row.message.ident x.message.ident ∙ apart once k x e) ∙ s.1 (less once) k x e)
+          (λ lt e. notes x.message.ident ∙ ap (λ (b : Bool). cond b (Some (length store)) (home x.message.ident)) (same_turned row.message.ident x.message.ident ∙ apart once k x e) ∙ s.1 (less once) k x e)
           (λ last e. notes x.message.ident
-          ∙ ap (λ (b : Bool). cond b (Some (length store)) (home x.message.ident)) (ap (λ (r : Row). same_ident row.message.ident r.message.ident) (sym (some_row row x e)) ∙ ident_self row.message.ident)
+          ∙ ap (λ (b : Bool). cond b (Some (length store)) (home x.message.ident)) (ap (λ (r : Row). same_ident row.message.ident r.message.ident) (sym (some_row row x e)) ∙ same_self row.message.ident)
           ∙ ap (λ (n : ℕ). Some n) (sym last))
 
       listed : AreListed (store ++ Some row ∷ []) (change_at at (seat_on row.place.lane (length store)) qs)
@@ -289,17 +278,17 @@ module _ (store : List (Option Row)) (qs : List Named) (home : Ident → Option 
     where
       by : (o : Option Row) → row_in ident (shelves_of store qs) ≡ o → o ≡ None
       by None h = refl
-      by (Some row) h = absurd (let at = found_slot store ident qs row h in let t : None ≡ Some at.slot = sym e ∙ ap home (sym (ident_is row.message.ident ident at.its)) ∙ s.1 refl at.slot row at.there in cc)
+      by (Some row) h = absurd (let at = found_slot store ident qs row h in let t : None ≡ Some at.slot = sym e ∙ ap home (sym (same_is row.message.ident ident at.its)) ∙ s.1 refl at.slot row at.there in cc)
 
   some_nat : (a b : ℕ) → Some a ≡ Some b → a ≡ b
   some_nat a b e = grind (arith, e)
 
   -- the slot of each row of the ident
   pub its_slot : (k j : ℕ) (row : Row) → home ident ≡ Some k → row_at store j ≡ Some row → has_ident ident row ≡ true → j ≡ k
-  its_slot k j row e there its = some_nat j k (sym (s.1 refl j row there) ∙ ap home (ident_is row.message.ident ident its) ∙ e)
+  its_slot k j row e there its = some_nat j k (sym (s.1 refl j row there) ∙ ap home (same_is row.message.ident ident its) ∙ e)
 
   pub no_slot : (j : ℕ) (row : Row) → home ident ≡ None → row_at store j ≡ Some row → has_ident ident row ≡ true → ⊥
-  no_slot j row e there its = absurd (let t : None ≡ Some j = sym e ∙ ap home (sym (ident_is row.message.ident ident its)) ∙ s.1 refl j row there in cc)
+  no_slot j row e there its = absurd (let t : None ≡ Some j = sym e ∙ ap home (sym (same_is row.message.ident ident its)) ∙ s.1 refl j row there in cc)
 
   empty_slot : (k : ℕ) → home ident ≡ Some k → ((row : Row) → row_at store k ≡ Some row → has_ident ident row ≡ true → ⊥) → row_in ident (shelves_of store qs) ≡ None
   empty_slot k e n = by (row_in ident (shelves_of store qs)) refl
@@ -534,16 +523,10 @@ module _ (store : List (Option Row)) (qs : List Named) (home : Ident → Option 
   pub noted_empty : (st : List (Option Row)) (now : Ident → Option ℕ) (slot : ℕ) → st ≡ wider → ((other : Ident) → now other ≡ (if same_ident row.message.ident other then Some slot else home other)) → IsStore st qs now twice
   noted_empty st now slot e notes = subst (λ (x : List (Option Row)). IsStore x qs now twice) (sym e) (empty.0, noted, empty.2)
     where
-      swap : (a b : Ident) → same_ident a b ≡ same_ident b a
-      swap a b = by a.manager b.manager a.incarnation b.incarnation a.number b.number
-        where
-          by : (m1 m2 i1 i2 n1 n2 : ℕ) → ((eqb m1 m2 && eqb i1 i2) && eqb n1 n2) ≡ ((eqb m2 m1 && eqb i2 i1) && eqb n2 n1)
-          by m1 m2 i1 i2 n1 n2 = grind (arith, nat_tests)
-
       noted : twice ≡ false → AreNoted now wider
       noted once k x there =
           notes x.message.ident
-          ∙ ap (λ (b : Bool). cond b (Some slot) (home x.message.ident)) (swap row.message.ident x.message.ident ∙ none_there once k x (row_either store None k x there (λ lt e. e) (λ last e. absurd cc)))
+          ∙ ap (λ (b : Bool). cond b (Some slot) (home x.message.ident)) (same_turned row.message.ident x.message.ident ∙ none_there once k x (row_either store None k x there (λ lt e. e) (λ last e. absurd cc)))
           ∙ empty.1 (less once) k x there
 
   pub filled : (st st1 : List (Option Row)) (qs1 : List Named) (now : Ident → Option ℕ) (slot at : ℕ) → st ≡ wider → slot ≡ length store → at < length view → ((other : Ident) → now other ≡ (if same_ident row.message.ident other then Some slot else home other))

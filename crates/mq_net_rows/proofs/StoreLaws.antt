@@ -1,34 +1,11 @@
 -- Slots: a row more, rows that stay, and which slot holds a row.
-use Rattle.std.proofs.Common.{ℕ, zero, suc, ◌≡◌, ◌+◌, ◌<◌, ◌≤◌, Bool, true, false, eqb, cond, List, [], ◌∷◌, ◌++◌, Option, Some, None, refl, ap, sym, subst, ◌∙◌, arith, length, take, drop}
-use Rattle.std.specs.Prelude.{nat_lt, map, not, slice_get, slice_set, ◌&&◌}
+use Rattle.std.proofs.Common.{ℕ, zero, suc, ◌≡◌, ◌+◌, ◌<◌, ◌≤◌, Bool, true, false, cond, List, [], ◌∷◌, ◌++◌, Option, Some, None, refl, ap, sym, subst, ◌∙◌, arith, length, take, drop}
+use Rattle.std.specs.Prelude.{nat_lt, map, not, slice_get, slice_set}
 use Rattle.std.proofs.lemmas.Bool.Decides.{nat_tests}
 use Rattle.mq_message.specs.declared.message.Ident.{Ident}
 use Rattle.mq_queue.specs.declared.row.Row.{Row}
 use Rattle.mq_queue.specs.Rows.{keep, same_ident, has_ident, is_persistent}
 use Rattle.mq_net_rows.specs.Stored.{slot_or, row_at, row_list, rows_of, kept_slot, kept_if, kept_at as kept_there, holds, AreLasting}
-
--- Idents.
-pub ident_is : (a b : Ident) → same_ident a b ≡ true → a ≡ b
-ident_is a b e =
-    let manager : a.manager ≡ b.manager = by0 a.manager b.manager a.incarnation b.incarnation a.number b.number e in
-    let incarnation : a.incarnation ≡ b.incarnation = by1 a.manager b.manager a.incarnation b.incarnation a.number b.number e in
-    let number : a.number ≡ b.number = by2 a.manager b.manager a.incarnation b.incarnation a.number b.number e in
-    λ i. record { manager = manager i; incarnation = incarnation i; number = number i }
-  where
-    by0 : (m1 m2 i1 i2 n1 n2 : ℕ) → ((eqb m1 m2 && eqb i1 i2) && eqb n1 n2) ≡ true → m1 ≡ m2
-    by0 m1 m2 i1 i2 n1 n2 e = grind (arith, nat_tests)
-
-    by1 : (m1 m2 i1 i2 n1 n2 : ℕ) → ((eqb m1 m2 && eqb i1 i2) && eqb n1 n2) ≡ true → i1 ≡ i2
-    by1 m1 m2 i1 i2 n1 n2 e = grind (arith, nat_tests)
-
-    by2 : (m1 m2 i1 i2 n1 n2 : ℕ) → ((eqb m1 m2 && eqb i1 i2) && eqb n1 n2) ≡ true → n1 ≡ n2
-    by2 m1 m2 i1 i2 n1 n2 e = grind (arith, nat_tests)
-
-pub ident_self : (a : Ident) → same_ident a a ≡ true
-ident_self a = by a.manager a.incarnation a.number
-  where
-    by : (m i n : ℕ) → ((eqb m m && eqb i i) && eqb n n) ≡ true
-    by m i n = grind (arith, nat_tests)
 
 -- A slot more.
 pub row_before : (store : List (Option Row)) (x : Option Row) (k : ℕ) → k < length store → row_at (store ++ x ∷ []) k ≡ row_at store k
@@ -220,30 +197,6 @@ kept_far stays store at le = by (slice_get store at) (far store at le)
     by : (o : Option (Option Row)) → o ≡ None → store ≡ kept_if stays o at store
     by None e = refl
     by (Some slot) e = absurd cc
-
-mapped_suc : {X : Type 0} (f : X → X) (xs : List X) (i : ℕ) (old : X) → i < length xs → slice_get (map f (take i xs) ++ drop i xs) i ≡ Some old → slice_set (map f (take i xs) ++ drop i xs) i (f old) ≡ map f (take (suc i) xs) ++ drop (suc i) xs
-mapped_suc f [] i old lt e = absurd (omega (arith, lt))
-mapped_suc f (x ∷ xs) zero old lt e = grind (arith)
-mapped_suc f (x ∷ xs) (suc i) old lt e = grind (arith, mapped_suc f xs i old)
-
-add_one : (i : ℕ) → suc i ≡ i + 1
-add_one i = omega arith
-
-pub mapped_next : {X : Type 0} (f : X → X) (xs ys : List X) (i : ℕ) (old new : X) → ys ≡ map f (take i xs) ++ drop i xs → i < length xs → slice_get ys i ≡ Some old → new ≡ f old → slice_set ys i new ≡ map f (take (i + 1) xs) ++ drop (i + 1) xs
-mapped_next {X} f xs ys i old new so_far lt e is =
-    ap (slice_set ys i) is ∙ ap (λ (l : List X). slice_set l i (f old)) so_far
-    ∙ mapped_suc f xs i old lt (ap (λ (l : List X). slice_get l i) (sym so_far) ∙ e)
-    ∙ ap (λ (n : ℕ). map f (take n xs) ++ drop n xs) (add_one i)
-
-pub mapped_all : {X : Type 0} (f : X → X) (xs : List X) → map f (take (length xs) xs) ++ drop (length xs) xs ≡ map f xs
-mapped_all f [] = refl
-mapped_all {X} f (x ∷ xs) = ap (λ (l : List X). f x ∷ l) (mapped_all f xs)
-
-pub mapped_long : {X : Type 0} (f : X → X) (xs : List X) (i : ℕ) → length (map f (take i xs) ++ drop i xs) ≡ length xs
-mapped_long f [] zero = refl
-mapped_long f [] (suc i) = refl
-mapped_long f (x ∷ xs) zero = refl
-mapped_long f (x ∷ xs) (suc i) = ap (λ (n : ℕ). suc n) (mapped_long f xs i)
 
 -- Before a place each row is persistent.
 abbrev persists : Row → Bool

@@ -6,34 +6,8 @@ use crate::lanes::{Lane, Named};
 use crate::store::row_at;
 use mq_base::{Items, NoMemory};
 use mq_calls::Shelf;
-use mq_message::{Bytes, Message};
 use mq_queue::Row;
 use std::alloc::Global;
-
-/// A copy of a message.
-pub fn copy_message(alloc: Global, message: &Message) -> Result<Message, NoMemory>
-    ensures { IfOk result (λ m. m ≡ message.now) }
-{
-    let body = Bytes::from_slice(alloc, message.body.as_slice())?;
-    Ok(Message {
-        ident: message.ident,
-        md: message.md,
-        route: message.route,
-        deadline: message.deadline,
-        body,
-    })
-}
-
-fn copy_row(alloc: Global, row: &Row) -> Result<Row, NoMemory>
-    ensures { IfOk result (λ r. r ≡ row.now) }
-{
-    let message = copy_message(alloc, &row.message)?;
-    Ok(Row {
-        place: row.place,
-        message,
-        by: row.by,
-    })
-}
 
 fn put_slot(
     alloc: Global,
@@ -46,7 +20,7 @@ fn put_slot(
     match row_at(store, slot) {
         None => Ok(()),
         Some(row) => {
-            let row = copy_row(alloc, row)?;
+            let row = row.try_clone(alloc)?;
             out.push(row)?;
             Ok(())
         }

@@ -11,7 +11,6 @@ mod shelves;
 mod slots;
 mod store;
 
-pub use copies::copy_message;
-pub use homes::{IdentKey, home_of, note_home};
+pub use homes::{home_of, note_home};
 pub use index::ShelfIndex;
 pub use shelves::Shelves;

@@ -9,7 +9,7 @@ ghost use Rattle.mq_spec_network.specs.Ledger.{put_in, row_in, is_one_of, leave_
 ghost use Rattle.mq_net_rows.specs.Stored.{queues_find, leave_some, put_row, put_rows, AreInLanes, AreSorted};
 
 use crate::copies::copy_shelves;
-use crate::homes::{IdentKey, drop_home, home_of, note_home};
+use crate::homes::{drop_home, home_of, note_home};
 use crate::lanes::{Named, lanes_row};
 use crate::roll::Roll;
 use crate::slots::Slots;
@@ -32,7 +32,7 @@ pub struct Shelves {
     // The slots of each queue.
     queues: Roll,
     // The slot of each row's ident.
-    homes: IndexMap<IdentKey, usize>,
+    homes: IndexMap<Ident, usize>,
     // Whether an ident was placed where a row of its own stood.
     doubled: bool,
 }

@@ -4,7 +4,7 @@ use Rattle.std.specs.Prelude.{if◌then◌else◌}
 use Rattle.std.specs.Str.{bytes_eq}
 use Rattle.mq_queue.specs.declared.row.Row.{Row}
 use Rattle.mq_calls.specs.declared.image.Shelf.{Shelf}
-use Rattle.mq_spec_network.specs.Ledger.{rows_in}
+use Rattle.mq_net_rows.specs.from_spec_network.Ledger.{rows_in}
 use Rattle.mq_net_stands.specs.Stands.{rows_of}
 
 pub same_rows : (name : List ℕ) (ss : List Shelf) → rows_in name ss ≡ rows_of name ss

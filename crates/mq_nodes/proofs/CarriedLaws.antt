@@ -10,7 +10,7 @@ use Rattle.mq_history.specs.declared.history.History.{History}
 use Rattle.mq_history.specs.declared.history.Mark.{Mark}
 use Rattle.mq_history.specs.declared.scenario.Scenario.{Scenario}
 use Rattle.mq_history.specs.declared.scenario.Step.{Step}
-use Rattle.mq_spec_node.specs.Doers.{by, is_receiver, is_sender}
+use Rattle.mq_spec_network.specs.from_spec_node.Doers.{by, is_receiver, is_sender}
 use Rattle.mq_spec_network.specs.Cables.{Carries}
 use Rattle.mq_spec_network.specs.Lawful.{Went, marks_or}
 use Rattle.mq_spec_network.specs.Lawful.Went.{begins, ends}
@@ -63,7 +63,7 @@ until_none zero = refl
 until_none (suc zero) = refl
 until_none (suc (suc i)) = refl
 
-get_front : {A : Type 0} (xs ys : List A) (i : ℕ) → i < length xs → slice_get (xs ++ ys) i ≡ slice_get xs i
+pub get_front : {A : Type 0} (xs ys : List A) (i : ℕ) → i < length xs → slice_get (xs ++ ys) i ≡ slice_get xs i
 get_front [] ys i less = absurd (omega (arith, less))
 get_front (x ∷ xs) ys zero less = refl
 get_front (x ∷ xs) ys (suc i) less = get_front xs ys i (omega (arith, less))

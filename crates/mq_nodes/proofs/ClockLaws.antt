@@ -8,9 +8,9 @@ use Rattle.mq_history.specs.declared.calls.Call.{Call}
 use Rattle.mq_history.specs.declared.calls.Call.TheVariants as calls
 use Rattle.mq_history.specs.declared.calls.Entry.{Entry}
 use Rattle.mq_history.specs.declared.scenario.ManagerLine.{ManagerLine}
-use Rattle.mq_spec_node.specs.Node.{Node}
-use Rattle.mq_spec_node.specs.Lines.{lines_by}
-use Rattle.mq_spec_node.specs.Doers.{is_script, is_trigger, mains}
+use Rattle.mq_spec_network.specs.from_spec_node.Node.{Node}
+use Rattle.mq_spec_network.specs.from_spec_node.Lines.{lines_by}
+use Rattle.mq_spec_network.specs.from_spec_node.Doers.{is_script, is_trigger, mains}
 use Rattle.mq_spec_network.specs.Turns.{Network, node_at, node_of, does}
 use Rattle.mq_spec_network.specs.Tasks.{Task, clocks, clocks_from, moment_of}
 use Rattle.mq_spec_network.specs.Tasks.Task.{Ask}

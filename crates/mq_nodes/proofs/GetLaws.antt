@@ -11,12 +11,12 @@ use Rattle.mq_queue.specs.declared.row.Row.{Row}
 use Rattle.mq_calls.specs.State.{Plain}
 use Rattle.mq_calls.specs.Steps.{Step, Part, refused_or, refusal}
 use Rattle.mq_calls.specs.Reads.{handle_at}
-use Rattle.mq_spec_manager.specs.Handles.{for_connection, for_handle, connected}
-use Rattle.mq_spec_manager.specs.Get.{get_up, get_handle, get_scanned, get_found, get_tests, room_tests, with_row, without_row, is_under, is_left, expired_parts, scanned, mqget}
-use Rattle.mq_spec_manager.specs.Put.{queue_at}
-use Rattle.mq_spec_node.specs.Node.{Own}
-use Rattle.mq_spec_node.specs.Calls.{get_deed}
-use Rattle.mq_spec_node.specs.Lines.{is_none}
+use Rattle.mq_spec_network.specs.from_spec_manager.Handles.{for_connection, for_handle, connected}
+use Rattle.mq_spec_network.specs.from_spec_manager.Get.{get_up, get_handle, get_scanned, get_found, get_tests, room_tests, with_row, without_row, is_under, is_left, expired_parts, scanned, mqget}
+use Rattle.mq_spec_network.specs.from_spec_manager.Put.{queue_at}
+use Rattle.mq_spec_network.specs.from_spec_node.Node.{Own}
+use Rattle.mq_spec_network.specs.from_spec_node.Calls.{get_deed}
+use Rattle.mq_spec_network.specs.from_spec_node.Lines.{is_none}
 
 -- this is an event, whatever the node's own
 abbrev Goes : Own → Step Reason GetAnswer → Type 0

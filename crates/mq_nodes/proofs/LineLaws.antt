@@ -8,11 +8,11 @@ use Rattle.mq_history.specs.declared.calls.Entry.{Entry}
 use Rattle.mq_history.specs.declared.scenario.ScriptPart.{ScriptPart}
 use Rattle.mq_history.specs.declared.scripts.ScriptLine.{ScriptLine}
 use Rattle.mq_history.specs.declared.scripts.ScriptLine.TheVariants as lines
-use Rattle.mq_spec_node.specs.Node.{Node}
-use Rattle.mq_spec_node.specs.Scripts.{Memory, deadline, line_call, until_of, wait_of}
-use Rattle.mq_spec_node.specs.Doers.{is_script, is_trigger, mains}
-use Rattle.mq_spec_node.specs.Lines.{Next, next_if, next_of, next_until, waits_at, call_after, deadline_kept, lines_by, memory_by}
-use Rattle.mq_spec_node.specs.Lines.Next.{Ends, Waits, Makes}
+use Rattle.mq_spec_network.specs.from_spec_node.Node.{Node}
+use Rattle.mq_spec_network.specs.from_spec_node.Scripts.{Memory, deadline, line_call, until_of, wait_of}
+use Rattle.mq_spec_network.specs.from_spec_node.Doers.{is_script, is_trigger, mains}
+use Rattle.mq_spec_network.specs.from_spec_node.Lines.{Next, next_if, next_of, next_until, waits_at, call_after, deadline_kept, lines_by, memory_by}
+use Rattle.mq_spec_network.specs.from_spec_node.Lines.Next.{Ends, Waits, Makes}
 use Rattle.mq_spec_network.specs.Turns.{Network, node_at}
 use Rattle.mq_spec_network.specs.ScriptLines.{IsUntil, call_next, lines_left}
 use Rattle.mq_spec_network.specs.Tasks.{Task, moment_of}

@@ -9,11 +9,11 @@ use Rattle.mq_history.specs.declared.calls.Entry.{Entry}
 use Rattle.mq_history.specs.declared.scenario.ScriptPart.{ScriptPart}
 use Rattle.mq_history.specs.declared.scripts.ScriptLine.{ScriptLine}
 use Rattle.mq_history.specs.declared.scripts.ScriptLine.TheVariants as lines
-use Rattle.mq_spec_manager.specs.Stops.{last_moment}
-use Rattle.mq_spec_node.specs.Node.{Node}
-use Rattle.mq_spec_node.specs.Scripts.{Memory, deadline, fresh, line_call, until_of, wait_of}
-use Rattle.mq_spec_node.specs.Lines.{Next, next_by, next_if, next_of, waits_at, call_after, deadline_kept, lines_by, memory_after, memory_by, is_none}
-use Rattle.mq_spec_node.specs.Lines.Next.{Ends, Waits, Makes}
+use Rattle.mq_spec_network.specs.from_spec_manager.Stops.{last_moment}
+use Rattle.mq_spec_network.specs.from_spec_node.Node.{Node}
+use Rattle.mq_spec_network.specs.from_spec_node.Scripts.{Memory, deadline, fresh, line_call, until_of, wait_of}
+use Rattle.mq_spec_network.specs.from_spec_node.Lines.{Next, next_by, next_if, next_of, waits_at, call_after, deadline_kept, lines_by, memory_after, memory_by, is_none}
+use Rattle.mq_spec_network.specs.from_spec_node.Lines.Next.{Ends, Waits, Makes}
 use Rattle.mq_frame.specs.declared.frame.Seen.TheVariants as items
 use Rattle.mq_spec_network.specs.Turns.{Network, node_at, deed_at}
 use Rattle.mq_spec_network.specs.ScriptLines.{IsUntil, call_next, lines_left}

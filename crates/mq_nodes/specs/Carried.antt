@@ -4,7 +4,7 @@ use Rattle.mq_history.specs.declared.history.History.{History}
 use Rattle.mq_history.specs.declared.history.Mark.{Mark}
 use Rattle.mq_history.specs.declared.scenario.CableLine.{CableLine}
 use Rattle.mq_history.specs.declared.scenario.Scenario.{Scenario}
-use Rattle.mq_spec_node.specs.Doers.{by, is_receiver, is_sender}
+use Rattle.mq_spec_network.specs.from_spec_node.Doers.{by, is_receiver, is_sender}
 use Rattle.mq_spec_network.specs.Cables.{Carries}
 use Rattle.mq_spec_network.specs.Lawful.{IsCarried}
 use Rattle.mq_spec_network.specs.Turns.{Network}

@@ -10,12 +10,12 @@ use Rattle.mq_history.specs.declared.scenario.Scenario.{Scenario}
 use Rattle.mq_history.specs.declared.scenario.ScriptPart.{ScriptPart}
 use Rattle.mq_history.specs.declared.scenario.Step.{Step}
 use Rattle.mq_history.specs.declared.scripts.ScriptLine.{ScriptLine}
-use Rattle.mq_spec_node.specs.Node.{Node}
-use Rattle.mq_spec_node.specs.Monitors.{begins}
-use Rattle.mq_spec_manager.specs.Stops.{last_moment}
-use Rattle.mq_spec_node.specs.Lines.{Next, next_by, lines_by}
-use Rattle.mq_spec_node.specs.Scripts.{deadline, wait_of}
-use Rattle.mq_spec_node.specs.Lines.Next.{Ends, Waits, Makes}
+use Rattle.mq_spec_network.specs.from_spec_node.Node.{Node}
+use Rattle.mq_spec_network.specs.from_spec_node.Monitors.{begins}
+use Rattle.mq_spec_network.specs.from_spec_manager.Stops.{last_moment}
+use Rattle.mq_spec_network.specs.from_spec_node.Lines.{Next, next_by, lines_by}
+use Rattle.mq_spec_network.specs.from_spec_node.Scripts.{deadline, wait_of}
+use Rattle.mq_spec_network.specs.from_spec_node.Lines.Next.{Ends, Waits, Makes}
 use Rattle.mq_spec_network.specs.Story.{Mem, entries_at}
 use Rattle.mq_spec_network.specs.Turns.{Network, node_at}
 use Rattle.mq_spec_network.specs.ScriptLines.{lines_left}

@@ -1,8 +1,11 @@
-//! Copies of objects, which an ALTER changes.
+//! Copies of objects, which an ALTER changes, and of the definitions of a manager.
 ghost use Rattle.std.specs.Prelude.{◌≡◌, IfOk};
+ghost use Rattle.mq_objects.specs.Slots.{present};
 
+use crate::defs::Defs;
 use crate::object::{
-    AliasQueue, Channel, KeptAttribute, LocalQueue, ManagerAttributes, Object, Process, RemoteQueue,
+    AliasQueue, Channel, Definitions, KeptAttribute, LocalQueue, ManagerAttributes, Object,
+    Process, RemoteQueue,
 };
 use mq_base::Items;
 use std::alloc::{AllocError, Global};
@@ -159,4 +162,27 @@ impl Object {
             Object::Process(process) => Object::Process(process.try_clone(alloc)?),
         })
     }
+}
+
+fn copy_objects(alloc: Global, slots: &[Option<Object>]) -> Result<Items<Object>, AllocError>
+    ensures { IfOk result (λ objects. objects ≡ present slots.now) }
+{
+    let mut objects = Items::new(alloc);
+    for slot in slots {
+        let Some(object) = slot else {
+            continue;
+        };
+        objects.push(object.try_clone(alloc)?)?;
+    }
+    Ok(objects)
+}
+
+/// A copy of the definitions, in order of definition, or `AllocError` where memory is short.
+pub fn copy_definitions(alloc: Global, defs: &Defs) -> Result<Definitions, AllocError>
+    ensures { IfOk result (λ d. d ≡ defs.now.definitions) }
+{
+    Ok(Definitions {
+        objects: copy_objects(alloc, defs.slots())?,
+        manager: defs.manager().try_clone(alloc)?,
+    })
 }

@@ -8,11 +8,11 @@ use Rattle.mq_spec_manager.specs.Stops.{started_need}
 use Rattle.mq_spec_log.specs.Applies.Start.{First, Later}
 use Rattle.mq_spec_log.specs.Bodies.{image}
 use Rattle.mq_log.specs.State.{log_length}
-use Rattle.mq_law_image.proofs.Recovered.{image_so_far}
-use Rattle.mq_law_image.proofs.Starting.{begun_lasts}
-use Rattle.mq_recover.specs.declared.recovery.RecoverFault.TheVariants.{BadRecord}
-use Rattle.mq_recover.specs.Found.{Recovers}
-use Rattle.mq_core.specs.Values.{CoreValue}
+use Rattle.mq_restart.proofs.from_law_image.Recovered.{image_so_far}
+use Rattle.mq_restart.proofs.from_law_image.Starting.{begun_lasts}
+use Rattle.mq_restart.specs.from_recover.RecoverFaultVariants.{BadRecord}
+use Rattle.mq_restart.specs.from_recover.Found.{Recovers}
+use Rattle.mq_restart.specs.from_core.Values.{CoreValue}
 use Rattle.mq_opening.specs.Opened.{IsOpening, IsOpenLength, JustBegun, before_start}
 
 -- The image of all bodies.

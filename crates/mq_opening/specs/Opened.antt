@@ -3,7 +3,7 @@ use Rattle.std.specs.Prelude.{◌≡◌, ◌-◌, ℕ, List}
 use Rattle.mq_calls.specs.State.{Given}
 use Rattle.mq_calls.specs.declared.image.Image.{Image}
 use Rattle.mq_log.specs.State.{log_length}
-use Rattle.mq_core.specs.Values.{CoreValue}
+use Rattle.mq_restart.specs.from_core.Values.{CoreValue}
 use Rattle.mq_restart.specs.Begun.{HasBegun}
 
 -- of these bytes, with this given

@@ -4,15 +4,14 @@ ghost use Rattle.mq_log.specs.State.{log_length};
 ghost use Rattle.mq_spec_log.specs.Applies.Start.{Later};
 ghost use Rattle.mq_spec_log.specs.Bodies.{image};
 ghost use Rattle.mq_restart.specs.Begun.{given_by};
-ghost use Rattle.mq_recover.specs.Found.{Recovers};
+ghost use Rattle.mq_restart.specs.from_recover.Found.{Recovers};
 ghost use Rattle.mq_opening.specs.Opened.{IsOpening, IsOpenLength, JustBegun, before_start};
 
 use mq_base::{NoMemory, QName};
 use mq_calls::Image;
-use mq_core::{Core, Parts};
 use mq_disk::Disk;
 use mq_log::Log;
-use mq_recover::{RecoverFault, Start, image};
+use mq_restart::below::{Core, Parts, RecoverFault, Start, image};
 use std::alloc::Global;
 
 /// The length of a Started record in the log.

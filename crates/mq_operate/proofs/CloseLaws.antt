@@ -13,10 +13,10 @@ use Rattle.mq_spec_manager.specs.Agents.{CanHarden, IsUp, harden, set_bound}
 use Rattle.mq_spec_node.specs.Terms.{Did, Part, Plain}
 use Rattle.mq_spec_node.specs.Words.{is_open, parts_of}
 use Rattle.mq_core.specs.Values.{CoreValue, manager_of}
-use Rattle.mq_events.specs.declared.outcome.Told.{Told}
-use Rattle.mq_turns.specs.Turns.{IsBehind, Made, MadeOr, has_run}
-use Rattle.mq_turns.proofs.PartLaws.{AreSilent, behind_if, behind_none, behind_ran, made_behind}
-use Rattle.mq_turns.proofs.QuietLaws.{BringNone, harden_brings}
+use Rattle.mq_turn_parts.specs.from_events.{Told}
+use Rattle.mq_turn_parts.specs.Turns.{IsBehind, Made, MadeOr, has_run}
+use Rattle.mq_turn_parts.proofs.PartLaws.{AreSilent, behind_if, behind_none, behind_ran, made_behind}
+use Rattle.mq_turn_parts.proofs.QuietLaws.{BringNone, harden_brings}
 use Rattle.mq_operate.specs.Receivers.{close_named, unbound_if}
 
 -- ---- whether a session is open

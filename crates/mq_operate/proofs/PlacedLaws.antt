@@ -9,7 +9,7 @@ use Rattle.mq_sender.specs.declared.state.Limits.{Limits}
 use Rattle.mq_spec_manager.specs.Agents.{IsSenderHere}
 use Rattle.mq_spec_node.specs.Words.{ChannelEnd, ReceiverEnd, SenderEnd, end_here, limits_here, limits_of, reset_end, start_end, stop_end}
 use Rattle.mq_spec_node.specs.Node.ChannelEnd.{Sends, Receives}
-use Rattle.mq_events.specs.States.{NodeState, node_in}
+use Rattle.mq_turn_parts.specs.from_events.States.{NodeState, node_in}
 use Rattle.mq_operate.specs.declared.working.Worked.{Worked}
 use Rattle.mq_operate.specs.declared.places.Seat.{Seat}
 use Rattle.mq_operate.specs.Places.{IsSeat, ReceivesHere, SendsHere}

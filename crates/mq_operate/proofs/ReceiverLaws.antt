@@ -13,8 +13,8 @@ use Rattle.mq_receiver.specs.declared.state.Receiver.{Receiver}
 use Rattle.mq_spec_node.specs.Terms.{Did, Message}
 use Rattle.mq_spec_node.specs.Words.{ChannelEnd, Node, Own, ReceiverEnd, as_receiver, cable_of, end_in, forgotten_rows, receiver_end, receiver_named, set_end, with_end}
 use Rattle.mq_spec_node.specs.Node.ChannelEnd.{Sends, Receives}
-use Rattle.mq_events.specs.Counts.{kept_in, kept_total}
-use Rattle.mq_turns.specs.Turns.{has_run, own_by}
+use Rattle.mq_turn_parts.specs.from_events.Counts.{kept_in, kept_total}
+use Rattle.mq_turn_parts.specs.Turns.{has_run, own_by}
 use Rattle.mq_operate.specs.declared.places.Seat.{Seat}
 use Rattle.mq_operate.specs.Places.{IsSeatAt, ReceivesHere, defined_sends, receives_for, seat_in, seat_of}
 use Rattle.mq_operate.specs.Receivers.{behind, kept_if}

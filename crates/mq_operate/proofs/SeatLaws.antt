@@ -13,11 +13,11 @@ use Rattle.mq_spec_manager.specs.Agents.{harden}
 use Rattle.mq_spec_node.specs.Terms.{OpRefusal, Part}
 use Rattle.mq_spec_node.specs.Words.{Deed, Own, ReceiverEnd, is_bad_number, limits_here, operated, parts_of, receiver_end, refused, refused_or, reset_end, start_end, stop_end, with_end}
 use Rattle.mq_spec_node.specs.Node.ChannelEnd.{Receives}
-use Rattle.mq_events.specs.States.{NodeState, node_in}
-use Rattle.mq_events.proofs.KeepLaws.{waits_less}
-use Rattle.mq_turns.specs.Turns.{Made, MadeOr, own_by}
-use Rattle.mq_turns.proofs.PartLaws.{none_made}
-use Rattle.mq_turns.proofs.QuietLaws.{BringNone, harden_brings}
+use Rattle.mq_turn_parts.specs.from_events.States.{NodeState, node_in}
+use Rattle.mq_turn_parts.proofs.from_events.KeepLaws.{waits_less}
+use Rattle.mq_turn_parts.specs.Turns.{Made, MadeOr, own_by}
+use Rattle.mq_turn_parts.proofs.PartLaws.{none_made}
+use Rattle.mq_turn_parts.proofs.QuietLaws.{BringNone, harden_brings}
 use Rattle.mq_operate.specs.declared.places.Seat.{Seat}
 use Rattle.mq_operate.specs.declared.working.Worked.{Worked}
 use Rattle.mq_operate.specs.Places.{IsSeat, seat_of}

@@ -13,15 +13,15 @@ use Rattle.mq_sync.specs.declared.unit.Settle.{Settle}
 use Rattle.mq_sync.specs.declared.unit.Unit.{Unit as Luw}
 use Rattle.mq_sync.specs.Settlement.{is_commit}
 use Rattle.mq_calls.specs.Words.{batch_of, in_doubt_of, sender_data}
-use Rattle.mq_manager.specs.Facts.{IsWell}
+use Rattle.mq_turn_parts.specs.from_manager.Facts.{IsWell}
 use Rattle.mq_spec_manager.specs.Agents.{CanHarden, harden, unit_of}
 use Rattle.mq_spec_node.specs.Terms.{Did, Op, OpRefusal, Part, Plain, is_up}
 use Rattle.mq_spec_node.specs.Words.{Tried, Deed, Handler, Node, Own, SenderEnd, forgotten_rows, operate, operate_up, operated, parts_of, refused, refused_or, resolve_doubt, resolve_end, sender_named, still_tried}
-use Rattle.mq_events.specs.Counts.{kept_total, waiting_total}
-use Rattle.mq_events.specs.States.{NodeState, node_in}
-use Rattle.mq_turns.specs.Turns.{IsAsWas, MadeOr, own_by}
-use Rattle.mq_turns.proofs.AgentLaws.{as_was}
-use Rattle.mq_turns.proofs.QuietLaws.{BringNone}
+use Rattle.mq_turn_parts.specs.from_events.Counts.{kept_total, waiting_total}
+use Rattle.mq_turn_parts.specs.from_events.States.{NodeState, node_in}
+use Rattle.mq_turn_parts.specs.Turns.{IsAsWas, MadeOr, own_by}
+use Rattle.mq_turn_parts.proofs.AgentLaws.{as_was}
+use Rattle.mq_turn_parts.proofs.QuietLaws.{BringNone}
 use Rattle.mq_operate.specs.declared.working.Worked.{Worked}
 use Rattle.mq_operate.specs.Works.{IsUnworked, IsWorked, Works}
 

@@ -26,15 +26,15 @@ use Rattle.mq_spec_node.specs.Terms.{Did, OpRefusal, Part, Plain, SeizeFault, St
 use Rattle.mq_spec_node.specs.Words.{ChannelEnd, Deed, Own, SenderEnd, cable_of, is_bad_number, is_in_doubt, limits_here, operated, parts_of, refused, refused_or, reset_end, seize_refusal, sender_started, set_end, start_end, start_seized, stop_end, with_end}
 use Rattle.mq_spec_node.specs.Node.ChannelEnd.{Sends, Receives}
 use Rattle.mq_core.specs.Values.{CoreValue, manager_of}
-use Rattle.mq_events.specs.Counts.{kept_in}
-use Rattle.mq_events.specs.declared.outcome.Told.{Told}
-use Rattle.mq_events.specs.States.{NodeState, node_in}
-use Rattle.mq_events.proofs.KeepLaws.{waits_less}
-use Rattle.mq_turns.specs.Turns.{IsAsWas, IsBehind, Made, MadeOr, left_parts, own_by}
-use Rattle.mq_turns.proofs.PartLaws.{ran_made}
-use Rattle.mq_turns.proofs.AgentLaws.{nothing_made}
-use Rattle.mq_turns.proofs.TimeLaws.{made_left}
-use Rattle.mq_turns.proofs.QuietLaws.{BringNone}
+use Rattle.mq_turn_parts.specs.from_events.Counts.{kept_in}
+use Rattle.mq_turn_parts.specs.from_events.{Told}
+use Rattle.mq_turn_parts.specs.from_events.States.{NodeState, node_in}
+use Rattle.mq_turn_parts.proofs.from_events.KeepLaws.{waits_less}
+use Rattle.mq_turn_parts.specs.Turns.{IsAsWas, IsBehind, Made, MadeOr, left_parts, own_by}
+use Rattle.mq_turn_parts.proofs.PartLaws.{ran_made}
+use Rattle.mq_turn_parts.proofs.AgentLaws.{nothing_made}
+use Rattle.mq_turn_parts.proofs.TimeLaws.{made_left}
+use Rattle.mq_turn_parts.proofs.QuietLaws.{BringNone}
 use Rattle.mq_operate.specs.declared.working.Worked.{Worked}
 use Rattle.mq_operate.specs.Senders.{Sought, own_if, unset}
 use Rattle.mq_operate.specs.Works.{IsWorked, Works}

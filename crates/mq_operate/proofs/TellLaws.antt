@@ -7,20 +7,21 @@ use Rattle.mq_calls.specs.declared.choices.Choice.TheVariants.{Runs, NoMemory, S
 use Rattle.mq_disk.specs.declared.cutter.Stop.{Stop}
 use Rattle.mq_history.specs.declared.calls.Actor.TheVariants as actors
 use Rattle.mq_history.specs.declared.calls.Reply.TheVariants as replies
-use Rattle.mq_law_counts.specs.Counts.{Climbs}
-use Rattle.mq_spec_node.specs.Terms.{Acted, Actor, Call, Did, Entry, Op, OpRefusal, Part, Plain, Possible, Reply}
-use Rattle.mq_spec_node.specs.Words.{CanCome, Deed, Monitor, Node, Own, Tells, answer_of, done, done_by, node_of, operate, remembered}
-use Rattle.mq_events.specs.Counts.{IsNode, kept_total, waiting_total}
-use Rattle.mq_events.specs.Events.{ActsAs, MayAct, Stays}
-use Rattle.mq_events.specs.States.{IsKept, IsServed, NodeState, entry_of, node_in, told, value_of}
-use Rattle.mq_events.specs.Disks.{RoseBy, RoseWhere}
-use Rattle.mq_events.proofs.CallLaws.{rose_by, silent}
-use Rattle.mq_events.proofs.CountLaws.{climbs_counted, less_aside, long_more}
-use Rattle.mq_events.proofs.EntryLaws.{entry_kept}
-use Rattle.mq_events.proofs.RiseLaws.{risen_later, risen_with}
-use Rattle.mq_turns.specs.Turns.{IsMade, delta_by, own_by, plain_by}
-use Rattle.mq_turns.proofs.QuietLaws.{BringNone, none_climb}
-use Rattle.mq_turns.proofs.DueLaws.{may_low}
+use Rattle.mq_turn_parts.specs.from_law_counts.Counts.{Climbs}
+use Rattle.mq_spec_node.specs.Terms.{Acted, Actor, Call, Did, Entry, Op, OpRefusal, Part, Plain, Reply}
+use Rattle.mq_spec_node.specs.Words.{Deed, Monitor, Node, Own, Tells, answer_of, done, done_by, node_of, operate, remembered}
+use Rattle.mq_turn_parts.specs.from_events.Counts.{IsNode, kept_total, waiting_total}
+use Rattle.mq_turn_parts.specs.from_events.Events.{ActsAs, MayAct, Stays}
+use Rattle.mq_turn_parts.specs.from_events.States.{IsKept, IsServed, NodeState, entry_of, node_in, told, value_of}
+use Rattle.mq_turn_parts.specs.from_events.Disks.{RoseBy, RoseWhere}
+use Rattle.mq_turn_parts.proofs.from_events.CallLaws.{rose_by, silent}
+use Rattle.mq_turn_parts.proofs.from_events.CountLaws.{climbs_counted, less_aside, long_more}
+use Rattle.mq_turn_parts.proofs.from_events.EntryLaws.{entry_kept}
+use Rattle.mq_turn_parts.proofs.from_events.RiseLaws.{risen_later, risen_with}
+use Rattle.mq_turn_parts.specs.Turns.{IsMade, delta_by, own_by, plain_by}
+use Rattle.mq_turn_parts.proofs.QuietLaws.{BringNone, none_climb}
+use Rattle.mq_turn_parts.proofs.DueLaws.{may_low}
+use Rattle.mq_turn_parts.proofs.TurnLaws.{delta_is, next_is, can_come}
 use Rattle.mq_operate.specs.declared.working.Worked.{Worked}
 use Rattle.mq_operate.specs.Works.{IsUnworked, IsWorked, acted_by, answer_by, call_of, outcome_by, reply_by}
 
@@ -69,11 +70,6 @@ answer_rose None NoMemory before now rose = silent (replies.Acted (acted_by None
 answer_rose (Some reason) NoMemory before now rose = silent (replies.Acted (acted_by (Some reason))) (replies.Acted (acted_by (Some reason))) before now refl refl
 answer_rose refusal (Stopped by part left) before now rose = rose_by by before now rose
 
-delta_is : (d : Deed) (choice : Choice) (n : Node) → delta_by choice d.parts ≡ (done d choice n).delta
-delta_is d Runs n = refl
-delta_is d NoMemory n = refl
-delta_is d (Stopped by part left) n = refl
-
 pushed_is : (d : Deed) (choice : Choice) (n : Node) → d.pushed ≡ None → None ≡ (done d choice n).pushed
 pushed_is d Runs n e = sym e
 pushed_is d NoMemory n e = refl
@@ -83,16 +79,6 @@ received_is : (d : Deed) (choice : Choice) (n : Node) → IsMade choice → d.re
 received_is d Runs n m e = sym e
 received_is d NoMemory n m e = absurd m
 received_is d (Stopped by part left) n m e = sym e
-
-next_is : (d : Deed) (choice : Choice) (n : Node) → IsMade choice → (done d choice n).next ≡ node_of (plain_by choice d.parts n.manager) (own_by choice (delta_by choice d.parts) d.own n.own)
-next_is d Runs n m = refl
-next_is d NoMemory n m = absurd m
-next_is d (Stopped by part left) n m = refl
-
-can_come : (d : Deed) (choice : Choice) (n : Node) → IsMade choice → Possible choice d.parts n.manager.log.armed → CanCome d choice n
-can_come d Runs n m p = p
-can_come d NoMemory n m p = absurd m
-can_come d (Stopped by part left) n m p = p
 
 climbs_by : (parts : List Part) (choice : Choice) (p : Plain) → IsMade choice → BringNone parts → Climbs 0 p (plain_by choice parts p)
 climbs_by parts Runs p m b = (none_climb parts p b).all

@@ -8,7 +8,7 @@ use Rattle.mq_sender.specs.States as senders
 use Rattle.mq_spec_node.specs.Terms.{Did, OpRefusal, SeizeFault, Step, Refuse, Do, when, refusal}
 use Rattle.mq_spec_node.specs.Words.{ChannelEnd, Node, Own, SenderEnd, is_bad_number, is_in_doubt, limits_here, seize_refusal, with_end}
 use Rattle.mq_core.specs.Values.{CoreValue}
-use Rattle.mq_turns.specs.Turns.{IsAsWas, Made, own_by}
+use Rattle.mq_turn_parts.specs.Turns.{IsAsWas, Made, own_by}
 use Rattle.mq_operate.specs.declared.working.Worked.{Worked}
 
 -- a queue that was sought was refused, or opened

@@ -9,13 +9,13 @@ use Rattle.mq_history.specs.declared.acts.Acted.TheVariants as acted
 use Rattle.mq_history.specs.declared.calls.Call.TheVariants as calls
 use Rattle.mq_history.specs.declared.calls.Reply.TheVariants as replies
 use Rattle.mq_sc_parse.specs.declared.command.Command.TheVariants as commands
-use Rattle.mq_law_image.specs.Bounds.{all_growth}
+use Rattle.mq_turn_parts.specs.from_law_image.Bounds.{all_growth}
 use Rattle.mq_spec_node.specs.Terms.{Acted, Call, Did, Op, OpRefusal, Part, Reply}
 use Rattle.mq_spec_node.specs.Words.{Deed, op_stopped}
-use Rattle.mq_events.specs.declared.outcome.Outcome.{Outcome}
-use Rattle.mq_events.specs.States.{NodeState}
-use Rattle.mq_events.specs.Counts.{kept_total, waiting_total}
-use Rattle.mq_turns.specs.Turns.{IsAsWas, Made, own_by}
+use Rattle.mq_turn_parts.specs.from_events.{Outcome}
+use Rattle.mq_turn_parts.specs.from_events.States.{NodeState}
+use Rattle.mq_turn_parts.specs.from_events.Counts.{kept_total, waiting_total}
+use Rattle.mq_turn_parts.specs.Turns.{IsAsWas, Made, own_by}
 use Rattle.mq_operate.specs.declared.working.Worked.{Worked}
 
 abbrev pub call_of : Op → Call

@@ -8,10 +8,10 @@ ghost use Rattle.mq_spec_manager.specs.Agents.{HasBatch, HasNoBatch, unit_of};
 use mq_base::ChName;
 use mq_core::Parts;
 use mq_disk::Disk;
-use mq_manager::Manager;
 use mq_sender::Kept;
 use mq_sides::{batch_of, sender_of};
 use mq_sync::{SenderData, Unit};
+use mq_turn_parts::below::Manager;
 
 fn kept_in<D: Disk>(parts: &Parts<D>, channel: &ChName) -> Kept
     ensures { result ≡ kept_of (sender_data channel.now (plain_of parts.now)) }

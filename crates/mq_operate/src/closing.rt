@@ -2,23 +2,21 @@
 ghost use Rattle.std.specs.Prelude.{◌≡◌, ◌++◌, Ok, false};
 ghost use Rattle.mq_calls.specs.declared.agents.Note.TheVariants as notes;
 ghost use Rattle.mq_calls.specs.declared.choices.Choice.TheVariants as choices;
-ghost use Rattle.mq_core.specs.Values.{WritesLog, manager_of};
 ghost use Rattle.mq_core.specs.Views.{plain_of};
 ghost use Rattle.mq_sync.specs.Settlement.{receiver_or};
-ghost use Rattle.mq_calls.specs.Words.{MeetsOrWants, receiver_data};
+ghost use Rattle.mq_calls.specs.Words.{receiver_data};
 ghost use Rattle.mq_spec_manager.specs.Agents.{CanHarden, IsUp, harden, set_bound};
 ghost use Rattle.mq_spec_node.specs.Words.{is_open, parts_of};
-ghost use Rattle.mq_turns.specs.Turns.{IsBehind, MadeOr};
+ghost use Rattle.mq_turn_parts.specs.Turns.{IsBehind, MadeOr};
 ghost use Rattle.mq_operate.specs.Receivers.{close_named, unbound_if};
 
 use mq_base::{ChName, NoMemory};
 use mq_calls::Note;
-use mq_core::{Core, Parts};
+use mq_core::Parts;
 use mq_disk::Disk;
-use mq_events::Told;
-use mq_manager::Manager;
 use mq_sides::receiver_data;
-use mq_turns::{hardened, has_run, ran};
+use mq_turn_parts::below::{Manager, Told};
+use mq_turn_parts::{hardened, has_run, ran, unbind};
 
 #[tactic(auto, using(crate::proofs::CloseLaws::open_or))]
 fn is_open_in<D: Disk>(parts: &Parts<D>, channel: &ChName) -> bool
@@ -48,22 +46,6 @@ fn session_of<D: Disk>(manager: &Manager<D>, channel: &ChName) -> u64
     session_in(&manager.core.parts, channel)
 }
 
-fn unbind_in<D: Disk>(core: &mut Core<D>, channel: &ChName)
-    requires up { IsUp core.old.plain }
-    ensures meets { MeetsOrWants (manager_of core.old) (set_bound channel.now false core.old.plain) (Ok tt) (manager_of core.new) }
-    ensures told { WritesLog core.old (set_bound channel.now false core.old.plain) (Ok tt) core.new }
-{
-    mq_agents::unbind(core, channel);
-}
-
-/// A receiver isn't bound from now on. It takes no memory.
-fn unbind<D: Disk>(manager: &mut Manager<D>, channel: &ChName)
-    requires up { IsUp manager.old.plain }
-    ensures { MeetsOrWants (manager_of manager.old) (set_bound channel.now false manager.old.plain) (Ok tt) (manager_of manager.new) }
-{
-    unbind_in(&mut manager.core, channel);
-}
-
 /// So where all before was done.
 #[tactic(auto, using(crate::proofs::CloseLaws::unbound_done, crate::proofs::CloseLaws::unbound_undone, crate::proofs::CloseLaws::up_ran))]
 fn unbind_if<D: Disk>(manager: &mut Manager<D>, channel: &ChName, told: &Told)
@@ -76,7 +58,7 @@ fn unbind_if<D: Disk>(manager: &mut Manager<D>, channel: &ChName, told: &Told)
 }
 
 /// It isn't bound from now on, and nothing else. It takes no memory.
-#[tactic(auto, using(mq_turns::proofs::AgentLaws::agent_ran))]
+#[tactic(auto, using(mq_turn_parts::proofs::AgentLaws::agent_ran))]
 fn unbound<D: Disk>(manager: &mut Manager<D>, channel: &ChName) -> Told
     requires up { IsUp manager.old.plain }
     ensures { MadeOr (parts_of (set_bound channel.now false manager.old.plain)) (Ok result) manager.old manager.new }
@@ -86,7 +68,7 @@ fn unbound<D: Disk>(manager: &mut Manager<D>, channel: &ChName) -> Told
 }
 
 /// Its open session is hardened as closed, and the end unbound.
-#[tactic(auto, using(mq_turns::proofs::RunLaws::stays_up))]
+#[tactic(auto, using(mq_turn_parts::proofs::RunLaws::stays_up))]
 fn close_session<D: Disk>(
     manager: &mut Manager<D>,
     channel: &ChName,

@@ -1,12 +1,11 @@
 //! Commands on the ends of channels, as events.
 ghost use Rattle.std.specs.Prelude.{◌≡◌, ◌<◌};
-ghost use Rattle.mq_calls.specs.Words.{is_up};
 ghost use Rattle.mq_spec_manager.specs.Agents.{IsUp};
 ghost use Rattle.mq_objects.specs.Names.{channel_of};
 ghost use Rattle.mq_spec_node.specs.Words.{end_here, limits_of, operate, operate_up, reset_end, resolve_end, sender_named, start_end, stop_end};
-ghost use Rattle.mq_events.specs.States.{IsServed, node_in};
-ghost use Rattle.mq_events.specs.Counts.{IsNode};
-ghost use Rattle.mq_events.specs.Events.{ActsAs, MayAct};
+ghost use Rattle.mq_turn_parts.specs.from_events.States.{IsServed, node_in};
+ghost use Rattle.mq_turn_parts.specs.from_events.Counts.{IsNode};
+ghost use Rattle.mq_turn_parts.specs.from_events.Events.{ActsAs, MayAct};
 ghost use Rattle.mq_operate.specs.Places.{IsPlace};
 ghost use Rattle.mq_operate.specs.Works.{Works, call_of};
 
@@ -16,11 +15,12 @@ use crate::senders::{reset_sender, resolve_sender, start_sender, stop_sender};
 use crate::working::{Worked, answer_by, refused, tell_worked};
 use mq_base::{ChName, NoMemory};
 use mq_disk::Disk;
-use mq_events::{Node, NodeParts};
 use mq_history::{Acted, Actor, OpRefusal};
 use mq_sc_parse::Op;
 use mq_sender::Limits;
 use mq_sync::Settle;
+use mq_turn_parts::below::{Node, NodeParts};
+use mq_turn_parts::is_up;
 
 /// RESOLVE, at the sender's end of a cable, defined or not.
 #[tactic(auto, using(crate::proofs::SenderLaws::resolve_absent, crate::proofs::SenderLaws::resolve_there))]
@@ -152,12 +152,6 @@ fn work_up<D: Disk>(parts: &mut NodeParts<D>, op: &Op) -> Result<Worked, NoMemor
     }
 }
 
-fn is_up<D: Disk>(parts: &NodeParts<D>) -> bool
-    ensures { result ≡ is_up parts.now.manager.plain.running }
-{
-    parts.manager.is_up()
-}
-
 /// A command, before its entry.
 #[tactic(auto, using(crate::proofs::SenderLaws::down_refused, crate::proofs::SenderLaws::up_works))]
 fn work<D: Disk>(parts: &mut NodeParts<D>, op: &Op) -> Result<Worked, NoMemory>
@@ -190,7 +184,7 @@ fn operate_in<D: Disk>(parts: &mut NodeParts<D>, actor: Actor, op: Op) -> Result
 }
 
 /// So, where its entry's room can be had.
-#[tactic(auto, using(crate::proofs::TellLaws::roomed_node, crate::proofs::TellLaws::roomed_stays, crate::proofs::TellLaws::roomed_did, mq_turns::proofs::DueLaws::room_served, mq_turns::proofs::DueLaws::room_may))]
+#[tactic(auto, using(crate::proofs::TellLaws::roomed_node, crate::proofs::TellLaws::roomed_stays, crate::proofs::TellLaws::roomed_did, mq_turn_parts::proofs::DueLaws::room_served, mq_turn_parts::proofs::DueLaws::room_may))]
 fn operate_if<D: Disk>(parts: &mut NodeParts<D>, actor: Actor, op: Op) -> Result<Acted, NoMemory>
     requires node { IsNode parts.old }
     requires served { IsServed parts.old }

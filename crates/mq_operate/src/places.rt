@@ -4,18 +4,17 @@ ghost use Rattle.mq_objects.specs.Names.{channel_of};
 ghost use Rattle.mq_spec_node.specs.Node as nodes;
 ghost use Rattle.mq_spec_manager.specs.Agents.{is_sending_kind};
 ghost use Rattle.mq_spec_node.specs.Words.{cable_of, limits_of, sender_named};
-ghost use Rattle.mq_events.specs.States.{node_in};
+ghost use Rattle.mq_turn_parts.specs.from_events.States.{node_in};
 ghost use Rattle.mq_operate.specs.Places.{IsPlace, IsSeatAt, defined_sends, receives_for, seat_in, sends_for};
 
 use mq_base::{ChName, Items, NoMemory};
-use mq_cabled::{as_sender, cable_of};
+use mq_cabled::{as_sender, place_in};
 use mq_disk::Disk;
-use mq_events::NodeParts;
-use mq_manager::Manager;
 use mq_objects::{Channel, ChannelKind};
 use mq_own::{ChannelEnd, EndKind, Own, SenderEnd};
 use mq_receiver::Receiver;
 use mq_sender::Limits;
+use mq_turn_parts::below::{Manager, NodeParts};
 
 /// A receiver's end without the messages that it keeps.
 #[derive(Drop)]
@@ -154,18 +153,12 @@ fn sender_here<D: Disk>(parts: &NodeParts<D>, channel: &ChName) -> Place
     }
 }
 
-fn cable_place(ends: &[ChannelEnd], cable: u16) -> Option<usize>
-    ensures { result ≡ position (λ (x : nodes.ChannelEnd). cable_of x == cable) ends.now }
-{
-    ends.iter().position(|end| cable_of(end) == cable)
-}
-
 /// The first end of that cable stands there.
 #[tactic(auto, using(crate::proofs::ReceiverLaws::first_at))]
 fn is_first(ends: &Items<ChannelEnd>, cable: u16, at: usize) -> bool
     ensures { result ≡ true → position (λ (x : nodes.ChannelEnd). cable_of x == cable) ends.now ≡ Some at }
 {
-    match cable_place(ends.as_slice(), cable) {
+    match place_in(ends.as_slice(), cable) {
         None => false,
         Some(first) => first == at,
     }

@@ -7,8 +7,8 @@ ghost use Rattle.mq_spec_manager.specs.Agents.{IsUp, harden};
 ghost use Rattle.mq_spec_node.specs.Node as nodes;
 ghost use Rattle.mq_spec_node.specs.Words.{limits_here, operated, parts_of, receiver_end, reset_end, start_end, stop_end, with_end};
 ghost use Rattle.mq_spec_node.specs.Node.ChannelEnd.{Receives};
-ghost use Rattle.mq_events.specs.States.{node_in};
-ghost use Rattle.mq_turns.specs.Turns.{MadeOr, own_by};
+ghost use Rattle.mq_turn_parts.specs.from_events.States.{node_in};
+ghost use Rattle.mq_turn_parts.specs.Turns.{MadeOr, own_by};
 ghost use Rattle.mq_operate.specs.Places.{IsSeat};
 ghost use Rattle.mq_operate.specs.Receivers.{behind, close_named, kept_if, seat_unset};
 ghost use Rattle.mq_operate.specs.Works.{Works};
@@ -21,13 +21,13 @@ use mq_base::NoMemory;
 use mq_cabled::{lift_receiver, set_end};
 use mq_calls::{Messages, Note};
 use mq_disk::Disk;
-use mq_events::{NodeParts, Told};
 use mq_history::OpRefusal;
 use mq_own::{ChannelEnd, EndKind, Own, ReceiverEnd};
 use mq_receiver::Receiver;
 use mq_sender::Limits;
 use mq_sync::End;
-use mq_turns::{has_run, nothing_done};
+use mq_turn_parts::below::{NodeParts, Told};
+use mq_turn_parts::{has_run, nothing_done};
 use std::alloc::Global;
 
 /// What a receiver has kept, or nothing.

@@ -7,8 +7,8 @@ ghost use Rattle.mq_calls.specs.Words.{in_doubt_of, sender_data};
 ghost use Rattle.mq_spec_manager.specs.Agents.{CanHarden, IsSenderHere, IsUp, harden, release_batch, seize, unit_of};
 ghost use Rattle.mq_spec_node.specs.Words.{is_bad_number, is_in_doubt, limits_here, operated, parts_of, reset_end, resolve_end, start_end, start_seized, stop_end};
 ghost use Rattle.mq_spec_node.specs.Node.ChannelEnd.{Sends};
-ghost use Rattle.mq_events.specs.States.{node_in};
-ghost use Rattle.mq_turns.specs.Turns.{IsBehind, MadeOr, left_parts};
+ghost use Rattle.mq_turn_parts.specs.from_events.States.{node_in};
+ghost use Rattle.mq_turn_parts.specs.Turns.{IsBehind, MadeOr, left_parts};
 ghost use Rattle.mq_operate.specs.Senders.{SoughtOr, own_if, unset as unset_by};
 ghost use Rattle.mq_operate.specs.Works.{Works};
 
@@ -17,13 +17,12 @@ use crate::working::{Worked, keep_own, refused};
 use mq_base::{ChName, NoMemory};
 use mq_calls::{Note, SeizeFault};
 use mq_disk::Disk;
-use mq_events::{NodeParts, Told};
 use mq_history::OpRefusal;
-use mq_manager::Manager;
 use mq_own::{ChannelEnd, EndKind, SenderEnd};
 use mq_sender::{Kept, Limits};
 use mq_sync::{End, Settle, Unit};
-use mq_turns::{hardened, is_commit, keep_end, leave_in, nothing_done, ran, released};
+use mq_turn_parts::below::{Manager, NodeParts, Told};
+use mq_turn_parts::{hardened, is_commit, keep_end, leave_in, nothing_done, ran, released};
 use std::alloc::Global;
 
 /// A sender opens its transmission queue, or is refused.
@@ -184,7 +183,7 @@ fn stopped(end: &SenderEnd) -> SenderEnd
 }
 
 /// STOP of a sender's end: a batch that is not prepared is released, one in doubt stays.
-#[tactic(auto, using(mq_turns::proofs::RunLaws::stays_up))]
+#[tactic(auto, using(mq_turn_parts::proofs::RunLaws::stays_up))]
 pub fn stop_sender<D: Disk>(parts: &mut NodeParts<D>, end: &SenderEnd) -> Result<Worked, NoMemory>
     requires up { IsUp parts.old.manager.plain }
     ensures { Works (stop_end (Some (Sends end.now)) (node_in parts.old)) parts.old result parts.new }

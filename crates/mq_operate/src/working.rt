@@ -2,16 +2,16 @@
 ghost use Rattle.std.specs.Prelude.{◌≡◌, ◌<◌, ◌^◌, [], Some};
 ghost use Rattle.mq_calls.specs.declared.choices.Choice.TheVariants as choices;
 ghost use Rattle.mq_spec_node.specs.Words.{op_stopped};
-ghost use Rattle.mq_events.specs.States.{told};
-ghost use Rattle.mq_turns.specs.Turns.{own_by};
+ghost use Rattle.mq_turn_parts.specs.from_events.States.{told};
+ghost use Rattle.mq_turn_parts.specs.Turns.{own_by};
 ghost use Rattle.mq_operate.specs.Works.{acted_by, answer_by, call_of, outcome_by, reply_by};
 
 use mq_calls::Choice;
 use mq_disk::{Disk, Stop};
-use mq_events::{NodeParts, Outcome, Told};
 use mq_history::{Act, Acted, Actor, Call, OpRefusal, Reply};
 use mq_sc_parse::{Command, Op};
-use mq_turns::{has_run, nothing_done};
+use mq_turn_parts::below::{NodeParts, Outcome, Told};
+use mq_turn_parts::{has_run, nothing_done};
 use std::alloc::Global;
 
 /// What a command came to at a node, before its entry.

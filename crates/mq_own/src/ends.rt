@@ -3,9 +3,7 @@ ghost use Rattle.std.specs.Prelude.{◌≡◌};
 ghost use Rattle.mq_spec_node.specs.Deeds.{end_at_rest};
 
 use mq_base::{ChName, QName};
-use mq_calls::Messages;
-use mq_receiver::Receiver;
-use mq_sender::Sender;
+use mq_spec_node::below::{Messages, Receiver, Sender};
 use std::marker::Model;
 
 /// The sender end of a cable.

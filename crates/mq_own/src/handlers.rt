@@ -5,9 +5,9 @@ ghost use Rattle.mq_spec_node.specs.Deeds.{went, still_tried};
 ghost use Rattle.mq_own.specs.Views.{forgetting, forgetting_all};
 
 use mq_base::QName;
-use mq_calls::Did;
 use mq_message::Ident;
 use mq_rules::Table;
+use mq_spec_node::below::Did;
 use std::marker::Model;
 
 /// A dead letter that a handler has tried.

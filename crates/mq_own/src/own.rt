@@ -9,8 +9,7 @@ use crate::ends::ChannelEnd;
 use crate::handlers::Handler;
 use crate::parts::{Monitor, Script};
 use mq_base::Items;
-use mq_calls::Did;
-use mq_history::{Actor, Call, Reply};
+use mq_spec_node::below::{Actor, Call, Did, Reply};
 use std::marker::Model;
 
 /// All that is a node's own beside its manager, each list in the order of the numbers in it.

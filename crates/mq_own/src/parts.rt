@@ -2,8 +2,7 @@
 ghost use Rattle.std.specs.Prelude.{◌≡◌};
 ghost use Rattle.mq_spec_node.specs.Happens.{connected_by, disconnected_by};
 
-use mq_calls::{Answer, Hconn, Hobj};
-use mq_history::{Call, MonitorLine, Reply, ScriptPart};
+use mq_spec_node::below::{Answer, Call, Hconn, Hobj, MonitorLine, Reply, ScriptPart};
 use std::marker::Model;
 
 /// A trigger monitor.

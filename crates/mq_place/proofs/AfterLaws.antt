@@ -9,6 +9,7 @@ use Rattle.mq_queue.specs.declared.row.Row.{Row}
 use Rattle.mq_queue.specs.Rows.{is_free, is_before, is_after, keep}
 use Rattle.mq_queue.specs.Queues.{AllBehind, AreInOrder}
 use Rattle.mq_queue.proofs.QueueLaws.{order_keep}
+use Rattle.mq_queue.proofs.PlaceLaws.{before_trans}
 use Rattle.mq_place.specs.States.{rows_after, is_free_after, free_idents, row_ident}
 use Rattle.mq_place.proofs.RowLaws.{keep_twice, keep_same_rows}
 
@@ -16,12 +17,6 @@ use Rattle.mq_place.proofs.RowLaws.{keep_twice, keep_same_rows}
 abbrev pub behind : (Row → Bool) → List Row → List Row
 behind test [] = []
 behind test (row ∷ rows) = if test row then rows else behind test rows
-
-before_trans : (a b c : Place) → is_before a b ≡ true → is_before b c ≡ true → is_before a c ≡ true
-before_trans a b c p q = by a.lane b.lane c.lane a.arrival b.arrival c.arrival p q
-  where
-    by : (l1 l2 l3 a1 a2 a3 : ℕ) → (nat_lt l1 l2 || (eqb l1 l2 && nat_lt a1 a2)) ≡ true → (nat_lt l2 l3 || (eqb l2 l3 && nat_lt a2 a3)) ≡ true → (nat_lt l1 l3 || (eqb l1 l3 && nat_lt a1 a3)) ≡ true
-    by l1 l2 l3 a1 a2 a3 p q = grind (arith, nat_tests)
 
 not_before_self : (a : Place) → is_before a a ≡ false
 not_before_self a = by a.lane a.arrival

@@ -10,6 +10,7 @@ use Rattle.mq_queue.specs.declared.row.Row.{Row}
 use Rattle.mq_calls.specs.declared.records.Remove.{Remove}
 use Rattle.mq_queue.specs.Rows.{same_ident, has_ident, held_by, is_free, is_after, keep, retag}
 use Rattle.mq_queue.specs.Queues.{Lacks, AreDistinct, AreInOrder, freed, release_row, has_other_ident}
+use Rattle.mq_queue.proofs.Edits.{same_is}
 use Rattle.mq_queue.proofs.QueueLaws.{length_kept}
 use Rattle.mq_calls.specs.State.{Queue}
 use Rattle.mq_calls.specs.Changes.{release_if}
@@ -17,7 +18,7 @@ use Rattle.mq_place.specs.States.{QueueState, holds, let_go, is_other_row, has_h
 use Rattle.mq_place.specs.Slots.{present, slot_at}
 use Rattle.mq_place.specs.Held.{held_left, held_at_slot, held_from}
 use Rattle.mq_place.proofs.AfterLaws.{behind, next_after, rows_from_front}
-use Rattle.mq_place.proofs.HomeLaws.{ident_is, ident_self}
+use Rattle.mq_place.proofs.HomeLaws.{same_self}
 
 -- Rows that pass a test, from one to the next.
 
@@ -142,7 +143,7 @@ any_step : (by : Holder) (x row : Row) (b : Bool) (rest : Bool) → holds by x �
 any_step by x row true rest h e found later =
     let is : x ≡ row = grind (arith, found) in
     subst (λ (r : Row). (has_held_ident by r.message.ident x || rest) ≡ true) is
-    (both (same_ident x.message.ident x.message.ident) (holds by x) rest (ident_self x.message.ident) h)
+    (both (same_ident x.message.ident x.message.ident) (holds by x) rest (same_self x.message.ident) h)
   where
     both : (a b c : Bool) → a ≡ true → b ≡ true → ((a && b) || c) ≡ true
     both a b c p q = cc
@@ -191,7 +192,7 @@ only_step : (by : Holder) (ident : Ident) (x : Row) (xs : List Row) → Lacks x.
     → (b : Bool) → has_ident ident x ≡ b → ((b && holds by x) || list_any (has_held_ident by ident) xs) ≡ true → IsOnly by ident (x ∷ xs)
 only_step by ident x xs lacks rest false e any = (λ t. absurd (cc (e, t)), rest any)
 only_step by ident x xs lacks rest true e any =
-    let is : x.message.ident ≡ ident = ident_is x.message.ident ident e in
+    let is : x.message.ident ≡ ident = same_is x.message.ident ident e in
     let none = lacking by ident xs (subst (λ (i : Ident). Lacks i xs) is lacks) in
     (λ t. or_first (holds by x) (list_any (has_held_ident by ident) xs) none.0 any, none.1)
   where

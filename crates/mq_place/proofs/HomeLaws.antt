@@ -1,5 +1,5 @@
 -- Where idents stand stays noted, whatever is done to the queues.
-use Rattle.std.proofs.Common.{◌≡◌, ℕ, ◌+◌, ◌-◌, ◌<◌, ◌≤◌, Bool, true, false, eqb, cond, List, [], ◌∷◌, ◌++◌, refl, sym, ap, subst, ◌∙◌, arith, Bor}
+use Rattle.std.proofs.Common.{◌≡◌, ℕ, ◌+◌, ◌-◌, ◌<◌, ◌≤◌, Bool, true, false, cond, List, [], ◌∷◌, ◌++◌, refl, sym, ap, subst, ◌∙◌, arith, Bor}
 use Rattle.std.specs.Prelude.{Option, Some, None, map, find, not, nat_lt, ◌&&◌, ◌||◌, option_map, option_copied, is_some, IfSome}
 use Rattle.std.specs.List.{AllByRecursion}
 use Rattle.std.specs.Str.{bytes_eq}
@@ -10,7 +10,9 @@ use Rattle.mq_message.specs.declared.place.Holder.{Holder}
 use Rattle.mq_queue.specs.declared.row.Row.{Row}
 use Rattle.mq_queue.specs.Rows.{same_ident, has_ident, is_free, keep}
 use Rattle.mq_queue.specs.Queues.{Lacks, lane_of, freed, message_of}
+use Rattle.mq_queue.proofs.Edits.{same_is, same_turned}
 use Rattle.mq_queue.proofs.QueueLaws.{all_insert, all_keep, all_retag, all_imply}
+pub use Rattle.mq_queue.proofs.Edits.{same_self}
 use Rattle.mq_calls.specs.State.{Queue, Which}
 use Rattle.mq_calls.specs.State.Which.{Among}
 use Rattle.mq_calls.specs.Changes.{selects, retag_if, release_if, kept_in, held_in, released_in, new_row}
@@ -20,34 +22,6 @@ use Rattle.mq_place.specs.Homes.{is_home, IsHome, AreHome, all_pending}
 use Rattle.mq_place.proofs.NameLaws.{name_is, name_self}
 
 -- Idents.
-
-pub ident_is : (a b : Ident) → same_ident a b ≡ true → a ≡ b
-ident_is a b e =
-    let manager : a.manager ≡ b.manager = by0 a.manager b.manager a.incarnation b.incarnation a.number b.number e in
-    let incarnation : a.incarnation ≡ b.incarnation = by1 a.manager b.manager a.incarnation b.incarnation a.number b.number e in
-    let number : a.number ≡ b.number = by2 a.manager b.manager a.incarnation b.incarnation a.number b.number e in
-    λ i. record { manager = manager i; incarnation = incarnation i; number = number i }
-  where
-    by0 : (m1 m2 i1 i2 n1 n2 : ℕ) → ((eqb m1 m2 && eqb i1 i2) && eqb n1 n2) ≡ true → m1 ≡ m2
-    by0 m1 m2 i1 i2 n1 n2 e = grind (arith, nat_tests)
-
-    by1 : (m1 m2 i1 i2 n1 n2 : ℕ) → ((eqb m1 m2 && eqb i1 i2) && eqb n1 n2) ≡ true → i1 ≡ i2
-    by1 m1 m2 i1 i2 n1 n2 e = grind (arith, nat_tests)
-
-    by2 : (m1 m2 i1 i2 n1 n2 : ℕ) → ((eqb m1 m2 && eqb i1 i2) && eqb n1 n2) ≡ true → n1 ≡ n2
-    by2 m1 m2 i1 i2 n1 n2 e = grind (arith, nat_tests)
-
-pub ident_self : (a : Ident) → same_ident a a ≡ true
-ident_self a = by a.manager a.incarnation a.number
-  where
-    by : (m i n : ℕ) → ((eqb m m && eqb i i) && eqb n n) ≡ true
-    by m i n = grind (arith, nat_tests)
-
-ident_swap : (a b : Ident) → same_ident a b ≡ same_ident b a
-ident_swap a b = by a.manager b.manager a.incarnation b.incarnation a.number b.number
-  where
-    by : (m1 m2 i1 i2 n1 n2 : ℕ) → ((eqb m1 m2 && eqb i1 i2) && eqb n1 n2) ≡ ((eqb m2 m1 && eqb i2 i1) && eqb n2 n1)
-    by m1 m2 i1 i2 n1 n2 = grind (arith, nat_tests)
 
 -- All queues, or one, are changed.
 
@@ -128,11 +102,11 @@ module _ (home new : Homes) (name : List ℕ) (message : Message) (noted : (othe
   other_rows : (queue : List ℕ) (rows : List Row) → Lacks message.ident rows → AllByRecursion (λ (row : Row). home row.message.ident ≡ Some queue) rows → AllByRecursion (λ (row : Row). new row.message.ident ≡ Some queue) rows
   other_rows queue [] lacks all = tt
   other_rows queue (row ∷ rows) lacks all =
-      let other = ident_swap message.ident row.message.ident ∙ lacks.0 in
+      let other = same_turned message.ident row.message.ident ∙ lacks.0 in
       (noted row.message.ident ∙ (λ i. cond (other i) (Some name) (all.0 i)), other_rows queue rows lacks.1 all.1)
 
   new_home : (s : QueueState) → has_name name s ≡ true → new message.ident ≡ Some s.queue.name
-  new_home s e = let self = ident_self message.ident in noted message.ident ∙ (λ i. cond (self i) (Some (name_is name s.queue.name e i)) (home message.ident))
+  new_home s e = let self = same_self message.ident in noted message.ident ∙ (λ i. cond (self i) (Some (name_is name s.queue.name e i)) (home message.ident))
 
   place_step : (s : QueueState) (ss changed : List QueueState) → Lacks message.ident s.queue.rows → IsHome home s → AreHome new ss → AreHome new changed → (b : Bool) → has_name name s ≡ b
       → AreHome new (cond b (arrived message s ∷ ss) (s ∷ changed))
@@ -161,12 +135,12 @@ module _ (home new : Homes) (name : List ℕ) (ident : Ident) (dropped : (other 
       here : same_ident ident row.message.ident ≡ true → (b : Bool) → is_home name (home ident) ≡ b → cond b None (home row.message.ident) ≡ Some queue
       here e false h = own
       here e true h =
-          let is : ident ≡ row.message.ident = ident_is ident row.message.ident e in
+          let is : ident ≡ row.message.ident = same_is ident row.message.ident e in
           let homed : home ident ≡ Some queue = ap home is ∙ own in
           let same : bytes_eq name queue ≡ true = sym (ap (is_home name) homed) ∙ h in
           let named : name ≡ queue = name_is name queue same in
           let back : bytes_eq queue name ≡ true = ap (bytes_eq queue) named ∙ name_self queue in
-          let swapped : same_ident row.message.ident ident ≡ true = ident_swap row.message.ident ident ∙ e in
+          let swapped : same_ident row.message.ident ident ≡ true = same_turned row.message.ident ident ∙ e in
           let gone : false ≡ true = (λ i. not (sym back i && (sym swapped i || false))) ∙ kept in
           absurd cc
 
@@ -275,7 +249,7 @@ row_found_in ident name (s ∷ ss) = (has_name name s && is_some (find (has_iden
 
 home_step : (home : Homes) (ident : Ident) (name : List ℕ) (x row : Row) (xs : List Row) → home x.message.ident ≡ Some name → (b : Bool) → has_ident ident x ≡ b → cond b (Some x) (find (has_ident ident) xs) ≡ Some row
     → (find (has_ident ident) xs ≡ Some row → home ident ≡ Some name) → home ident ≡ Some name
-home_step home ident name x row xs own true h e rest = ap home (sym (ident_is x.message.ident ident h)) ∙ own
+home_step home ident name x row xs own true h e rest = ap home (sym (same_is x.message.ident ident h)) ∙ own
 home_step home ident name x row xs own false h e rest = rest e
 
 found_home : (home : Homes) (ident : Ident) (name : List ℕ) (rows : List Row) (row : Row) → AllByRecursion (λ (r : Row). home r.message.ident ≡ Some name) rows → find (has_ident ident) rows ≡ Some row → home ident ≡ Some name

@@ -9,7 +9,7 @@ pub mod AfterLaws
 pub mod CallLaws
 pub mod PlainLaws
 pub mod HomeLaws
-pub mod KeyLaws
+pub mod TestLaws
 pub mod HeldLaws
 pub mod DueLaws
 pub mod DeadlineLaws

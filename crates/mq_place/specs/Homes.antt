@@ -1,23 +1,16 @@
 -- Where idents stand: what a map from idents to names of queues says of the rows.
-use Rattle.std.specs.Prelude.{◌≡◌, ℕ, ◌+◌, ◌==◌, ◌&&◌, Bool, false, List, [], ◌∷◌, Option, Some, None}
+use Rattle.std.specs.Prelude.{◌≡◌, ℕ, ◌+◌, Bool, false, List, [], ◌∷◌, Option, Some, None}
 use Rattle.std.specs.List.{AllByRecursion}
 use Rattle.std.specs.Str.{bytes_eq}
 use Rattle.indexmap.specs.IndexMap.{IndexMap, get}
 use Rattle.mq_message.specs.declared.message.Ident.{Ident}
 use Rattle.mq_queue.specs.declared.row.Row.{Row}
-use Rattle.mq_place.specs.declared.homes.IdentKey.{IdentKey}
+use Rattle.mq_queue.specs.Rows.{same_ident}
 use Rattle.mq_place.specs.States.{QueueState}
 
--- an ident as a key
-abbrev pub key_of : Ident → IdentKey
-key_of ident = record { manager = ident.manager; incarnation = ident.incarnation; number = ident.number }
-
-abbrev pub same_key : IdentKey → IdentKey → Bool
-same_key a b = a.manager == b.manager && (a.incarnation == b.incarnation && a.number == b.number)
-
 -- the queue that an ident was noted for
-abbrev pub home_of : {S : Type 0} → IndexMap IdentKey (List ℕ) S → Ident → Option (List ℕ)
-home_of homes ident = get same_key homes (key_of ident)
+abbrev pub home_of : {S : Type 0} → IndexMap Ident (List ℕ) S → Ident → Option (List ℕ)
+home_of homes ident = get same_ident homes ident
 
 abbrev pub is_home : List ℕ → Option (List ℕ) → Bool
 is_home name None = false

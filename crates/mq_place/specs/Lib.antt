@@ -5,3 +5,4 @@ pub mod Held
 pub mod Due
 pub mod Deadlines
 pub mod Rooms
+pub mod from_queue

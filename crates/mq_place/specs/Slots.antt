@@ -1,5 +1,6 @@
 -- Local queues in slots, in order of definition: a slot is empty where its queue was deleted.
-use Rattle.std.specs.Prelude.{◌≡◌, ℕ, suc, Bool, false, List, [], ◌∷◌, Option, Some, None, length, if◌then◌else◌, option_map, slice_index_or, slice_set}
+use Rattle.std.specs.Prelude.{◌≡◌, ℕ, suc, Bool, false, List, [], ◌∷◌, Option, Some, None, length, if◌then◌else◌, option_map, slice_index_or, slice_set, vec_len, vec_capacity}
+use Rattle.std.proofs.Common.{Vec}
 use Rattle.mq_queue.specs.declared.row.Row.{Row}
 use Rattle.mq_place.specs.States.{QueueState, has_name}
 
@@ -37,6 +38,12 @@ slot_at slots at = slice_index_or slots at None
 
 abbrev pub slot_changed : (QueueState → QueueState) → List (Option QueueState) → ℕ → List (Option QueueState)
 slot_changed f slots at = slice_set slots at (option_map f (slot_at slots at))
+
+-- A vector holds these items now, and has the length and the capacity that it had.
+pub record Becomes {X Z : Type 0} (items : List X) (old new : Vec X Z) : Type 0 where
+  pub slots : new.items ≡ items
+  pub len : vec_len new ≡ vec_len old
+  pub capacity : vec_capacity new ≡ vec_capacity old
 
 -- every queue is changed
 abbrev pub slots_changed : (QueueState → QueueState) → List (Option QueueState) → List (Option QueueState)

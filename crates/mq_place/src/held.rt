@@ -4,7 +4,7 @@ ghost use Rattle.std.specs.List.{list_any};
 ghost use Rattle.mq_queue.specs.Rows.{held_by, keep, retag};
 ghost use Rattle.mq_queue.specs.Queues.{AreDistinct};
 ghost use Rattle.mq_place.specs.States.{holds, has_held_ident, held_on, held_rows, is_other_row, let_go, on_rows, rows_after};
-ghost use Rattle.mq_place.specs.Slots.{present, slot_at, slot_changed, slots_changed};
+ghost use Rattle.mq_place.specs.Slots.{Becomes, present, slot_at, slot_changed, slots_changed};
 ghost use Rattle.mq_place.specs.Held.{held_at_slot};
 ghost use Rattle.mq_place.specs.Rooms.{RoomStays};
 
@@ -122,9 +122,7 @@ impl<Q: Queue + Drop> LocalRows<Q> {
 
 fn free_held_at<Q: Queue + Drop>(slots: &mut Vec<Option<LocalRows<Q>>>, at: usize, by: &Holder)
     requires at { at < vec_len slots.old }
-    ensures slots { slots.new.items ≡ slot_changed (on_rows (retag (let_go by.now))) slots.old.items at }
-    ensures len { vec_len slots.new ≡ vec_len slots.old }
-    ensures capacity { vec_capacity slots.new ≡ vec_capacity slots.old }
+    ensures { Becomes (slot_changed (on_rows (retag (let_go by.now))) slots.old.items at) slots.old slots.new }
 {
     if let Some(local) = &mut slots[at] {
         local.free_held(by);
@@ -133,9 +131,7 @@ fn free_held_at<Q: Queue + Drop>(slots: &mut Vec<Option<LocalRows<Q>>>, at: usiz
 
 fn remove_held_at<Q: Queue + Drop>(slots: &mut Vec<Option<LocalRows<Q>>>, at: usize, by: &Holder)
     requires at { at < vec_len slots.old }
-    ensures slots { slots.new.items ≡ slot_changed (on_rows (keep (is_other_row by.now))) slots.old.items at }
-    ensures len { vec_len slots.new ≡ vec_len slots.old }
-    ensures capacity { vec_capacity slots.new ≡ vec_capacity slots.old }
+    ensures { Becomes (slot_changed (on_rows (keep (is_other_row by.now))) slots.old.items at) slots.old slots.new }
 {
     if let Some(local) = &mut slots[at] {
         local.remove_held(by);

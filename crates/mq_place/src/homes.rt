@@ -2,39 +2,21 @@
 ghost use Rattle.std.specs.Prelude.{◌≡◌, ◌+◌, ◌<◌, ◌≤◌, ◌&&◌, Some, None, if◌then◌else◌, OnOk};
 ghost use Rattle.indexmap.specs.IndexMap.{spare};
 ghost use Rattle.mq_queue.specs.Rows.{same_ident};
-ghost use Rattle.mq_place.specs.Homes.{key_of, home_of, is_home};
+ghost use Rattle.mq_place.specs.Homes.{home_of, is_home};
 
 use indexmap::IndexMap;
 use mq_base::{NoMemory, QName};
 use mq_message::Ident;
 
-/// An ident as a key of a map.
-#[derive(Clone, Copy, PartialEq, Eq, Hash)]
-pub struct IdentKey {
-    manager: u8,
-    incarnation: u64,
-    number: u64,
-}
-
-fn key_of(ident: &Ident) -> IdentKey
-    ensures { result ≡ key_of ident.now }
-{
-    IdentKey {
-        manager: ident.manager,
-        incarnation: ident.incarnation,
-        number: ident.number,
-    }
-}
-
 /// The queue that an ident was noted for.
-pub fn home_of(homes: &IndexMap<IdentKey, QName>, ident: &Ident) -> Option<QName>
+pub fn home_of(homes: &IndexMap<Ident, QName>, ident: &Ident) -> Option<QName>
     ensures { result ≡ home_of homes.now ident.now }
 {
-    homes.get(&key_of(ident)).copied()
+    homes.get(ident).copied()
 }
 
 /// Takes memory for so many more idents. Room that is there is never refused.
-pub fn reserve_homes(homes: &mut IndexMap<IdentKey, QName>, more: u64) -> Result<(), NoMemory>
+pub fn reserve_homes(homes: &mut IndexMap<Ident, QName>, more: u64) -> Result<(), NoMemory>
     ensures same { (ident : Ident) → home_of homes.new ident ≡ home_of homes.old ident }
     ensures kept { spare homes.old ≤ spare homes.new }
     ensures ok { OnOk result (more ≤ spare homes.new) }
@@ -44,12 +26,12 @@ pub fn reserve_homes(homes: &mut IndexMap<IdentKey, QName>, more: u64) -> Result
 }
 
 /// Notes the queue of an ident. It takes no memory.
-pub fn note_home(homes: &mut IndexMap<IdentKey, QName>, ident: &Ident, name: &QName)
+pub fn note_home(homes: &mut IndexMap<Ident, QName>, ident: &Ident, name: &QName)
     requires { 0 < spare homes.old }
     ensures home { (other : Ident) → home_of homes.new other ≡ (if same_ident ident.now other then Some name.now else home_of homes.old other) }
     ensures spare { spare homes.old ≤ spare homes.new + 1 }
 {
-    let _before = homes.insert(key_of(ident), *name).unwrap();
+    let _before = homes.insert(*ident, *name).unwrap();
 }
 
 fn is_home(name: &QName, home: Option<QName>) -> bool
@@ -62,11 +44,11 @@ fn is_home(name: &QName, home: Option<QName>) -> bool
 }
 
 /// Drops the note of an ident, where it is of that queue. It takes no memory.
-pub fn drop_home(homes: &mut IndexMap<IdentKey, QName>, ident: &Ident, name: &QName)
+pub fn drop_home(homes: &mut IndexMap<Ident, QName>, ident: &Ident, name: &QName)
     ensures home { (other : Ident) → home_of homes.new other ≡ (if same_ident ident.now other && is_home name.now (home_of homes.old ident.now) then None else home_of homes.old other) }
     ensures spare { spare homes.old ≤ spare homes.new }
 {
     if is_home(name, home_of(homes, ident)) {
-        let _name = homes.swap_remove(&key_of(ident));
+        let _name = homes.swap_remove(ident);
     }
 }

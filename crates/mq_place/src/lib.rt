@@ -1,6 +1,7 @@
 //! The local queues of a manager, found by name, and the places of messages on them.
 #![tactic(auto)]
 
+mod deadlines;
 mod due;
 mod held;
 mod homes;
@@ -11,6 +12,7 @@ mod queues;
 mod rooms;
 mod slots;
 
+pub use deadlines::is_past;
 pub use due::DueAt;
 pub use laws::calls_are_changes;
 pub use local::LocalRows;

@@ -11,7 +11,7 @@ ghost use Rattle.mq_place.specs.States.{held_rows, state_in, state_or, change_st
 ghost use Rattle.mq_place.specs.Rooms.{RoomStays};
 
 use crate::due::{DueAt, DueNames};
-use crate::homes::{IdentKey, drop_home, home_of, note_home, reserve_homes};
+use crate::homes::{drop_home, home_of, note_home, reserve_homes};
 use crate::local::LocalRows;
 use crate::named::NamedQueues;
 use crate::rooms::RowRoom;
@@ -30,7 +30,7 @@ use std::marker::Model;
 pub struct Queues<Q: Queue + Drop> {
     named: NamedQueues<Q>,
     // The queue of each ident that has a row. Some idents may have none any more.
-    homes: IndexMap<IdentKey, QName>,
+    homes: IndexMap<Ident, QName>,
     // At least as many as uncommitted puts wait; there is room for so many idents.
     expected: u64,
     // The queues that may have a trigger due.

@@ -6,7 +6,7 @@ ghost use Rattle.mq_queue.specs.Rows.{keep, retag};
 ghost use Rattle.mq_queue.specs.Queues.{message_of, hold_row, release_row, has_other_ident, is_lasting, unit_freed};
 ghost use Rattle.mq_calls.specs.Changes.{made_due, forgotten};
 ghost use Rattle.mq_place.specs.States.{on_queue, on_rows, hold_each, release_each, served, switched_on, expecting, unpended, arrived, with_lanes, CanPlace, CanBeDue};
-ghost use Rattle.mq_place.specs.Slots.{present, AreNamed, IsFiled, slot_at, slot_changed, slots_changed, rows_at};
+ghost use Rattle.mq_place.specs.Slots.{present, AreNamed, Becomes, IsFiled, slot_at, slot_changed, slots_changed, rows_at};
 
 use crate::local::LocalRows;
 use indexmap::IndexMap;
@@ -22,9 +22,7 @@ pub fn lanes_at<Q: Queue + Drop>(
 )
     requires at { at < vec_len slots.old }
     requires empty { rows_at slots.old.items at ≡ [] }
-    ensures slots { slots.new.items ≡ slot_changed (with_lanes prioritized) slots.old.items at }
-    ensures len { vec_len slots.new ≡ vec_len slots.old }
-    ensures capacity { vec_capacity slots.new ≡ vec_capacity slots.old }
+    ensures { Becomes (slot_changed (with_lanes prioritized) slots.old.items at) slots.old slots.new }
 {
     if let Some(local) = &mut slots[at] {
         local.set_by_priority(prioritized);
@@ -51,9 +49,7 @@ pub fn expect_at<Q: Queue + Drop>(
 /// One put waits no longer.
 pub fn unpend_at<Q: Queue + Drop>(slots: &mut Vec<Option<LocalRows<Q>>>, at: usize)
     requires at { at < vec_len slots.old }
-    ensures slots { slots.new.items ≡ slot_changed (unpended) slots.old.items at }
-    ensures len { vec_len slots.new ≡ vec_len slots.old }
-    ensures capacity { vec_capacity slots.new ≡ vec_capacity slots.old }
+    ensures { Becomes (slot_changed (unpended) slots.old.items at) slots.old slots.new }
 {
     if let Some(local) = &mut slots[at] {
         local.unpend();
@@ -64,9 +60,7 @@ pub fn unpend_at<Q: Queue + Drop>(slots: &mut Vec<Option<LocalRows<Q>>>, at: usi
 pub fn place_at<Q: Queue + Drop>(slots: &mut Vec<Option<LocalRows<Q>>>, at: usize, message: Message)
     requires at { at < vec_len slots.old }
     requires can { IfSome (slot_at slots.old.items at) (CanPlace message) }
-    ensures slots { slots.new.items ≡ slot_changed (arrived message) slots.old.items at }
-    ensures len { vec_len slots.new ≡ vec_len slots.old }
-    ensures capacity { vec_capacity slots.new ≡ vec_capacity slots.old }
+    ensures { Becomes (slot_changed (arrived message) slots.old.items at) slots.old slots.new }
 {
     if let Some(local) = &mut slots[at] {
         local.place(message);
@@ -81,9 +75,7 @@ pub fn hold_at<Q: Queue + Drop>(
     by: &Holder,
 )
     requires at { at < vec_len slots.old }
-    ensures slots { slots.new.items ≡ slot_changed (on_rows (retag (hold_row ident.now by.now))) slots.old.items at }
-    ensures len { vec_len slots.new ≡ vec_len slots.old }
-    ensures capacity { vec_capacity slots.new ≡ vec_capacity slots.old }
+    ensures { Becomes (slot_changed (on_rows (retag (hold_row ident.now by.now))) slots.old.items at) slots.old slots.new }
 {
     if let Some(local) = &mut slots[at] {
         let _held = local.hold(ident, by);
@@ -98,9 +90,7 @@ pub fn release_at<Q: Queue + Drop>(
     backed_out: bool,
 )
     requires at { at < vec_len slots.old }
-    ensures slots { slots.new.items ≡ slot_changed (on_rows (retag (release_row ident.now backed_out))) slots.old.items at }
-    ensures len { vec_len slots.new ≡ vec_len slots.old }
-    ensures capacity { vec_capacity slots.new ≡ vec_capacity slots.old }
+    ensures { Becomes (slot_changed (on_rows (retag (release_row ident.now backed_out))) slots.old.items at) slots.old slots.new }
 {
     if let Some(local) = &mut slots[at] {
         let _released = local.release(ident, backed_out);
@@ -115,9 +105,7 @@ pub fn remove_at<Q: Queue + Drop>(
 ) -> Option<Message>
     requires at { at < vec_len slots.old }
     ensures message { result ≡ message_of ident.now (rows_at slots.old.items at) }
-    ensures slots { slots.new.items ≡ slot_changed (on_rows (keep (has_other_ident ident.now))) slots.old.items at }
-    ensures len { vec_len slots.new ≡ vec_len slots.old }
-    ensures capacity { vec_capacity slots.new ≡ vec_capacity slots.old }
+    ensures becomes { Becomes (slot_changed (on_rows (keep (has_other_ident ident.now))) slots.old.items at) slots.old slots.new }
 {
     match &mut slots[at] {
         None => None,
@@ -133,9 +121,7 @@ pub fn hold_each_at<Q: Queue + Drop>(
     by: &Holder,
 )
     requires at { at < vec_len slots.old }
-    ensures slots { slots.new.items ≡ slot_changed (on_rows (hold_each idents.now by.now)) slots.old.items at }
-    ensures len { vec_len slots.new ≡ vec_len slots.old }
-    ensures capacity { vec_capacity slots.new ≡ vec_capacity slots.old }
+    ensures { Becomes (slot_changed (on_rows (hold_each idents.now by.now)) slots.old.items at) slots.old slots.new }
 {
     if let Some(local) = &mut slots[at] {
         local.hold_each(idents, by);
@@ -149,9 +135,7 @@ pub fn release_each_at<Q: Queue + Drop>(
     idents: &[Ident],
 )
     requires at { at < vec_len slots.old }
-    ensures slots { slots.new.items ≡ slot_changed (on_rows (release_each idents.now false)) slots.old.items at }
-    ensures len { vec_len slots.new ≡ vec_len slots.old }
-    ensures capacity { vec_capacity slots.new ≡ vec_capacity slots.old }
+    ensures { Becomes (slot_changed (on_rows (release_each idents.now false)) slots.old.items at) slots.old slots.new }
 {
     if let Some(local) = &mut slots[at] {
         local.release_each(idents, false);
@@ -167,9 +151,7 @@ pub fn make_due_at<Q: Queue + Drop>(
 )
     requires at { at < vec_len slots.old }
     requires count { IfSome (slot_at slots.old.items at) CanBeDue }
-    ensures slots { slots.new.items ≡ slot_changed (on_queue (made_due depth moment)) slots.old.items at }
-    ensures len { vec_len slots.new ≡ vec_len slots.old }
-    ensures capacity { vec_capacity slots.new ≡ vec_capacity slots.old }
+    ensures { Becomes (slot_changed (on_queue (made_due depth moment)) slots.old.items at) slots.old slots.new }
 {
     if let Some(local) = &mut slots[at] {
         local.make_due(depth, moment);
@@ -179,9 +161,7 @@ pub fn make_due_at<Q: Queue + Drop>(
 /// A trigger that was due is served or dropped.
 pub fn serve_at<Q: Queue + Drop>(slots: &mut Vec<Option<LocalRows<Q>>>, at: usize)
     requires at { at < vec_len slots.old }
-    ensures slots { slots.new.items ≡ slot_changed (on_queue served) slots.old.items at }
-    ensures len { vec_len slots.new ≡ vec_len slots.old }
-    ensures capacity { vec_capacity slots.new ≡ vec_capacity slots.old }
+    ensures { Becomes (slot_changed (on_queue served) slots.old.items at) slots.old slots.new }
 {
     if let Some(local) = &mut slots[at] {
         local.serve();
@@ -191,9 +171,7 @@ pub fn serve_at<Q: Queue + Drop>(slots: &mut Vec<Option<LocalRows<Q>>>, at: usiz
 /// The queue counts as TRIGGER again.
 pub fn switch_on_at<Q: Queue + Drop>(slots: &mut Vec<Option<LocalRows<Q>>>, at: usize)
     requires at { at < vec_len slots.old }
-    ensures slots { slots.new.items ≡ slot_changed (on_queue switched_on) slots.old.items at }
-    ensures len { vec_len slots.new ≡ vec_len slots.old }
-    ensures capacity { vec_capacity slots.new ≡ vec_capacity slots.old }
+    ensures { Becomes (slot_changed (on_queue switched_on) slots.old.items at) slots.old slots.new }
 {
     if let Some(local) = &mut slots[at] {
         local.switch_on();
@@ -203,9 +181,7 @@ pub fn switch_on_at<Q: Queue + Drop>(slots: &mut Vec<Option<LocalRows<Q>>>, at: 
 /// The rows whose messages are persistent stay.
 pub fn keep_lasting_at<Q: Queue + Drop>(slots: &mut Vec<Option<LocalRows<Q>>>, at: usize)
     requires at { at < vec_len slots.old }
-    ensures slots { slots.new.items ≡ slot_changed (on_rows (keep is_lasting)) slots.old.items at }
-    ensures len { vec_len slots.new ≡ vec_len slots.old }
-    ensures capacity { vec_capacity slots.new ≡ vec_capacity slots.old }
+    ensures { Becomes (slot_changed (on_rows (keep is_lasting)) slots.old.items at) slots.old slots.new }
 {
     if let Some(local) = &mut slots[at] {
         local.keep_lasting();
@@ -215,9 +191,7 @@ pub fn keep_lasting_at<Q: Queue + Drop>(slots: &mut Vec<Option<LocalRows<Q>>>, a
 /// The rows that units hold are free again.
 pub fn free_units_at<Q: Queue + Drop>(slots: &mut Vec<Option<LocalRows<Q>>>, at: usize)
     requires at { at < vec_len slots.old }
-    ensures slots { slots.new.items ≡ slot_changed (on_rows (retag unit_freed)) slots.old.items at }
-    ensures len { vec_len slots.new ≡ vec_len slots.old }
-    ensures capacity { vec_capacity slots.new ≡ vec_capacity slots.old }
+    ensures { Becomes (slot_changed (on_rows (retag unit_freed)) slots.old.items at) slots.old slots.new }
 {
     if let Some(local) = &mut slots[at] {
         local.free_units();
@@ -227,9 +201,7 @@ pub fn free_units_at<Q: Queue + Drop>(slots: &mut Vec<Option<LocalRows<Q>>>, at:
 /// No trigger is due any more.
 pub fn forget_at<Q: Queue + Drop>(slots: &mut Vec<Option<LocalRows<Q>>>, at: usize)
     requires at { at < vec_len slots.old }
-    ensures slots { slots.new.items ≡ slot_changed (on_queue forgotten) slots.old.items at }
-    ensures len { vec_len slots.new ≡ vec_len slots.old }
-    ensures capacity { vec_capacity slots.new ≡ vec_capacity slots.old }
+    ensures { Becomes (slot_changed (on_queue forgotten) slots.old.items at) slots.old slots.new }
 {
     if let Some(local) = &mut slots[at] {
         local.forget();

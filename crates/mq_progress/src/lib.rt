@@ -1,6 +1,7 @@
 //! How far a script is: the lines that are done, what it remembers, and the deadline of a get that waits.
 #![tactic(auto)]
 
+pub mod below;
 mod laws;
 mod progress;
 

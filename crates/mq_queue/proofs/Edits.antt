@@ -1,11 +1,10 @@
 -- A row goes in at the end of its lane; the one row that passes a test goes out, or is changed at its place.
-use Rattle.std.proofs.Common.{◌≡◌, ℕ, suc, ◌+◌, ◌<◌, ◌≤◌, Bool, true, false, cond, eqb, List, [], ◌∷◌, length, get_or, refl, sym, ap, subst, ◌∙◌, arith}
+use Rattle.std.proofs.Common.{◌≡◌, ℕ, suc, ◌+◌, ◌<◌, ◌≤◌, Bool, true, false, cond, List, [], ◌∷◌, length, get_or, refl, sym, ap, subst, ◌∙◌, arith}
 use Rattle.std.specs.Prelude.{◌↔◌, Option, Some, None, IsSome, IfSome, OnSome, find, position, not, nat_lt, nat_le, slice_get, slice_set, ◌&&◌}
 use Rattle.std.specs.List.{position_or_len, insert, remove, list_any, AllByRecursion}
 use Rattle.std.proofs.lemmas.List.Sums.{prefix_len-le-length}
 use Rattle.std.proofs.lemmas.List.Folds.{find_at}
 use Rattle.std.proofs.lemmas.Option.{slice_get_past, slice_get_read}
-use Rattle.std.proofs.lemmas.Bool.{eqb-true}
 use Rattle.std.proofs.lemmas.Bool.Decides.{nat_tests}
 use Rattle.mq_message.specs.declared.message.Ident.{Ident}
 use Rattle.mq_queue.specs.declared.row.Row.{Row}
@@ -114,18 +113,15 @@ both : (a b : Bool) → (a && b) ≡ true → (a ≡ true) × (b ≡ true)
 both true b e = (refl, e)
 both false b e = absurd cc
 
-abbrev ident_of : ℕ → ℕ → ℕ → Ident
-ident_of m i n = record { manager = m; incarnation = i; number = n }
-
-ident_path : (m1 m2 i1 i2 n1 n2 : ℕ) → m1 ≡ m2 → i1 ≡ i2 → n1 ≡ n2 → ident_of m1 i1 n1 ≡ ident_of m2 i2 n2
-ident_path m1 m2 i1 i2 n1 n2 m i n = cc
-
 -- idents that pass the test are one
 pub same_is : (a b : Ident) → same_ident a b ≡ true → a ≡ b
-same_is a b e =
-    let outer = both (eqb a.manager b.manager && eqb a.incarnation b.incarnation) (eqb a.number b.number) e in
-    let inner = both (eqb a.manager b.manager) (eqb a.incarnation b.incarnation) outer.0 in
-    ident_path a.manager b.manager a.incarnation b.incarnation a.number b.number (eqb-true a.manager b.manager inner.0) (eqb-true a.incarnation b.incarnation inner.1) (eqb-true a.number b.number outer.1)
+same_is a b e = grind (arith, nat_tests)
+
+pub same_self : (a : Ident) → same_ident a a ≡ true
+same_self a = grind (arith, nat_tests)
+
+pub same_turned : (a b : Ident) → same_ident a b ≡ same_ident b a
+same_turned a b = grind (arith, nat_tests)
 
 not_true : (b c : Bool) → (b ≡ true → c ≡ true) → c ≡ false → b ≡ false
 not_true true c h e = absurd (let t = h refl in cc)

@@ -13,7 +13,7 @@ use Rattle.mq_queue.specs.Queues.{AllBehind, AreInOrder, is_fitting, is_takable,
 
 -- Places.
 
-before_trans : (a b c : Place) → is_before a b ≡ true → is_before b c ≡ true → is_before a c ≡ true
+pub before_trans : (a b c : Place) → is_before a b ≡ true → is_before b c ≡ true → is_before a c ≡ true
 before_trans a b c p q = by a.lane b.lane c.lane a.arrival b.arrival c.arrival p q
   where
     by : (l1 l2 l3 a1 a2 a3 : ℕ) → (nat_lt l1 l2 || (eqb l1 l2 && nat_lt a1 a2)) ≡ true → (nat_lt l2 l3 || (eqb l2 l3 && nat_lt a2 a3)) ≡ true → (nat_lt l1 l3 || (eqb l1 l3 && nat_lt a1 a3)) ≡ true

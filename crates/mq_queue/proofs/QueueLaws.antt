@@ -41,11 +41,8 @@ all_imply P Q h (row ∷ rows) all = (h row all.0, all_imply P Q h rows all.1)
 
 -- A row is placed
 
-same_back_of : (m1 m2 i1 i2 n1 n2 : ℕ) → ((eqb m1 m2 && eqb i1 i2) && eqb n1 n2) ≡ false → ((eqb m2 m1 && eqb i2 i1) && eqb n2 n1) ≡ false
-same_back_of m1 m2 i1 i2 n1 n2 e = grind (arith, nat_tests)
-
 same_back : (a b : Ident) → same_ident a b ≡ false → same_ident b a ≡ false
-same_back a b e = same_back_of a.manager b.manager a.incarnation b.incarnation a.number b.number e
+same_back a b e = grind (arith, nat_tests)
 
 distinct_step : (new row : Row) (rows : List Row) → has_ident new.message.ident row ≡ false → Lacks new.message.ident rows → Lacks row.message.ident rows → AreDistinct rows → AreDistinct (insert_row new rows)
     → (t : Bool) → AreDistinct (cond t (row ∷ insert_row new rows) (new ∷ row ∷ rows))

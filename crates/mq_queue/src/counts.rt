@@ -8,7 +8,7 @@ use crate::row::Row;
 use std::collections::VecDeque;
 
 /// What a row adds to the counter of a priority: 1 or 0.
-fn weight(least: u8, row: &Row) -> u64
+pub fn weight(least: u8, row: &Row) -> u64
     ensures { result ≡ weight least row.now }
 {
     if is_waiting(least, row) { 1 } else { 0 }

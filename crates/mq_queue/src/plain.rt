@@ -8,7 +8,7 @@ use crate::places::{first_after, first_takable, row_at};
 use crate::queue::Queue;
 use crate::row::Row;
 use crate::rows::{free_units, hold_one, keep_lasting, put_row, release_one, take_row};
-use mq_base::NoMemory;
+use mq_message::below::NoMemory;
 use mq_message::{Holder, Ident, Message, Place, Want};
 use std::alloc::Global;
 use std::collections::VecDeque;

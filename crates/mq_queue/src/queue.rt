@@ -6,7 +6,7 @@ ghost use Rattle.mq_queue.specs.Rows.{insert_row, keep, retag, is_after};
 ghost use Rattle.mq_queue.specs.Queues.{Lacks, IsQueue, row_of, first_of, is_takable, is_at, count_waiting, is_lasting, message_of, has_other_ident, is_free_one, is_held_one, hold_row, release_row, unit_freed};
 
 use crate::row::Row;
-use mq_base::NoMemory;
+use mq_message::below::NoMemory;
 use mq_message::{Holder, Ident, Message, Place, Want};
 use std::alloc::Global;
 

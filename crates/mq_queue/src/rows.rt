@@ -90,7 +90,8 @@ pub fn hold_one(rows: &mut VecDeque<Row>, frees: &mut [u64; 10], ident: &Ident, 
     }
 }
 
-fn free_row(row: &mut Row, backed_out: bool)
+/// A row is free again, and counts a backout where that is said.
+pub fn free_row(row: &mut Row, backed_out: bool)
     ensures { row.new ≡ freed backed_out row.old }
 {
     if backed_out {

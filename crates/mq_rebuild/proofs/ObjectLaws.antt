@@ -14,7 +14,8 @@ use Rattle.mq_objects.specs.Defaults.{nothing_defined}
 use Rattle.mq_rebuild.specs.Rebuilt.{objects_set, AreOnce}
 use Rattle.mq_rebuild.proofs.FrontLaws.{Fronts, fronts}
 
-abbrev Differ : Object → Object → Type 0
+-- two objects of which the second has not the name of the first
+abbrev pub Differ : Object → Object → Type 0
 Differ a b = is_object (space_of a) (name_of a) b ≡ false
 
 set_last : (new : Object) (done : List Object) → AllByRecursion (λ (a : Object). is_object (space_of new) (name_of new) a ≡ false) done → set_in new done ≡ done ++ new ∷ []
@@ -38,7 +39,7 @@ both true false e = absurd cc
 both false b e = absurd cc
 
 -- seen from the other one
-other_way : (a b : Object) → Differ a b → Differ b a
+pub other_way : (a b : Object) → Differ a b → Differ b a
 other_way a b e = by (is_object (space_of b) (name_of b) a) refl
   where
     by : (t : Bool) → is_object (space_of b) (name_of b) a ≡ t → t ≡ false

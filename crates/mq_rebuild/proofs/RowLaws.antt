@@ -11,6 +11,7 @@ use Rattle.mq_message.specs.declared.place.Holder.{Holder}
 use Rattle.mq_queue.specs.declared.row.Row.{Row}
 use Rattle.mq_queue.specs.Rows.{same_ident, insert_row, retag, is_free}
 use Rattle.mq_queue.specs.Queues.{Lacks, lane_of}
+use Rattle.mq_queue.proofs.Edits.{same_self}
 use Rattle.mq_calls.specs.State.{Queue as StateQueue}
 use Rattle.mq_calls.specs.State.Which.{Among}
 use Rattle.mq_calls.specs.Changes.{held_in, retag_if, selects}
@@ -102,16 +103,13 @@ lacks_numbered : (i : Ident) (k : ℕ) (done : List Row) → Lacks i done → La
 lacks_numbered i k [] h = tt
 lacks_numbered i k (row ∷ rows) h = (h.0, lacks_numbered i (k + 1) rows h.1)
 
-ident_self : (i : Ident) → same_ident i i ≡ true
-ident_self i = search rules
-
 -- the last row alone is held
 held_last : (name : List ℕ) (by : Holder) (new : Row) → new.by ≡ None → (rows : List Row) → Lacks new.message.ident rows
     → retag (λ (row : Row). retag_if (selects (Among name (new.message.ident ∷ [])) name row && is_free row) (Some by) row) (rows ++ new ∷ []) ≡ rows ++ record new { by = Some by } ∷ []
 held_last name by new free [] h = ap (λ (t : Bool). retag_if t (Some by) new ∷ []) one
   where
     one : (selects (Among name (new.message.ident ∷ [])) name new && is_free new) ≡ true
-    one = rw (same_name name, ident_self new.message.ident, free) refl
+    one = rw (same_name name, same_self new.message.ident, free) refl
 held_last name by new free (row ∷ rows) h =
     ap (λ (t : Bool). retag_if t (Some by) row ∷ retag (λ (row : Row). retag_if (selects (Among name (new.message.ident ∷ [])) name row && is_free row) (Some by) row) (rows ++ new ∷ [])) none
     ∙ ap (λ (rest : List Row). row ∷ rest) (held_last name by new free rows h.1)

@@ -1,6 +1,6 @@
 //! Local queues of a manager that comes up from an image.
 ghost use Rattle.std.specs.Prelude.{◌≡◌, IfOk, OnOk, None, map};
-ghost use Rattle.mq_objects.specs.Names.{is_by_priority, local_of};
+ghost use Rattle.mq_objects.specs.Names.{local_of};
 ghost use Rattle.mq_place.specs.States.{state_in};
 ghost use Rattle.mq_rebuild.specs.Rebuilt.{is_laned, state_on, shelf_added, shelves_added, CanAddShelf, CanAddShelves, IsRead};
 
@@ -8,18 +8,9 @@ use crate::rows::add_rows;
 use mq_base::{Items, NoMemory, QName};
 use mq_calls::Shelf;
 use mq_index::IndexedQueue;
-use mq_objects::{Defs, Delivery};
+use mq_objects::{Defs, is_by_priority};
 use mq_place::Queues;
 use std::alloc::Global;
-
-fn is_by_priority(delivery: Delivery) -> bool
-    ensures { result ≡ is_by_priority delivery }
-{
-    match delivery {
-        Delivery::Priority => true,
-        Delivery::Fifo => false,
-    }
-}
 
 // Whether the rows of a queue have lanes by their priorities.
 fn is_laned(defs: &Defs, name: &QName) -> bool

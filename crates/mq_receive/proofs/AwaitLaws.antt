@@ -8,7 +8,7 @@ use Rattle.mq_log.specs.State.{LogState}
 use Rattle.mq_record.specs.Room.{Buffered}
 use Rattle.mq_calls.specs.State.{Queue as StateQueue}
 use Rattle.mq_calls.specs.Words.{Plain, local_of, apply_all}
-use Rattle.mq_place.specs.States.{QueueState, QueueStates, queues_of, state_in, change_state, expecting}
+use Rattle.mq_core.specs.from_place.States.{QueueState, QueueStates, queues_of, state_in, change_state, expecting}
 use Rattle.mq_core.specs.declared.parts.Arrival.{Arrival}
 use Rattle.mq_core.specs.Views.{PartsValue, plain_of}
 use Rattle.mq_core.specs.Ties.{EndsReady, Tied, AreCounted, HasCounts, mode_is_up, state_lanes, pending_at, one_if, times_in_queues, waits}

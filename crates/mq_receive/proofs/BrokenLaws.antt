@@ -18,8 +18,8 @@ use Rattle.mq_core.specs.Values.{bodies_in, pending_record}
 use Rattle.mq_core.proofs.ForceLaws.{frozen_view, tied_downed}
 use Rattle.mq_core.proofs.PutLaws.{tied_roomier}
 use Rattle.mq_core.proofs.WriteLaws.{stopped_bodies}
-use Rattle.mq_agents.specs.declared.hardening.Unwritten.{Unwritten}
-use Rattle.mq_agents.specs.declared.hardening.Unwritten.TheVariants as unwritten
+use Rattle.mq_moves.specs.from_agents.{Unwritten}
+use Rattle.mq_moves.specs.from_agents.UnwrittenVariants as unwritten
 use Rattle.mq_receive.specs.Placed.{IsAwaited}
 use Rattle.mq_receive.specs.Committed.{batch_part, WritesBatch, unawaited, given_up, IsBroken, Commits}
 use Rattle.mq_receive.proofs.CommitLaws.{still_up, unchanged}

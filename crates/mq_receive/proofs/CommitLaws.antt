@@ -13,22 +13,21 @@ use Rattle.mq_core.specs.declared.parts.ChannelEnds.{ChannelEnds}
 use Rattle.mq_core.specs.Views.{PartsValue, plain_of}
 use Rattle.mq_core.specs.Ties.{EndsReady, Tied, mode_is_up}
 use Rattle.mq_core.specs.Counting.{CanCount}
-use Rattle.mq_core.specs.Forced.{IsForced, HasMoreRoom}
+use Rattle.mq_core.specs.Forced.{IsForced, HasMoreRoom, given_back}
 use Rattle.mq_core.specs.Values.{bodies_in, behind_record}
 use Rattle.mq_core.specs.Writes.{arrival_changes}
 use Rattle.mq_core.proofs.ForceLaws.{forced_view}
 use Rattle.mq_core.proofs.PutLaws.{tied_roomier, roomier_view}
 use Rattle.mq_core.proofs.WriteLaws.{roomier_bodies, forced_bodies}
-use Rattle.mq_agents.specs.Written.{with_receivers}
-use Rattle.mq_agents.proofs.EndLaws.{with_ends, ends_view}
+use Rattle.mq_moves.specs.from_agents.Written.{with_receivers}
+use Rattle.mq_moves.proofs.from_agents.EndLaws.{with_ends, ends_view}
 use Rattle.mq_law_manager.proofs.Units.{behind}
-use Rattle.mq_moves.specs.Moving.{given_back}
 use Rattle.mq_receive.specs.Standings.{AreFitting, behind_all}
 use Rattle.mq_receive.specs.Placed.{IsAwaited, landed_all}
 use Rattle.mq_receive.specs.Committed.{batch_part, side_after, with_side, IsDone, IsUnchanged}
 use Rattle.mq_receive.proofs.AsideLaws.{set_first, fits_aside}
 use Rattle.mq_receive.proofs.AwaitLaws.{IsOnWay, defined_all, on_way_counts, on_way_tied, awaited_view}
-use Rattle.mq_receive.proofs.PlacedLaws.{HasLanded, lands_all, landed_tied}
+use Rattle.mq_receive.proofs.PlacedLaws.{HasLanded, lands_all}
 
 -- It found no memory
 
@@ -120,7 +119,7 @@ done channel unit last landed n r side x y z w v told tells is up e f back h end
           ∙ set_first landed side.channel side.hardened (logged (Some r) p)
           ∙ sym (behind (flat_map arrival_changes landed) (SetReceiver side.channel side.hardened ∷ []) (logged (Some r) p))
           ∙ ap (part_by channel unit last landed (logged (Some r) p)) is;
-      tied = subst Tied (sym placed) (landed_tied (landed_all landed (given_back n z)) h.tied);
+      tied = subst Tied (sym placed) h.tied;
       told = says;
       fits = f.fits;
       bodies = ap bodies_in log ∙ forced_bodies r (with_side side y) z f ∙ ap (λ (q : PartsValue). behind_record (Some r) (bodies_in q.log)) e.same;

@@ -19,11 +19,11 @@ use Rattle.mq_core.specs.Views.{PartsValue, plain_of}
 use Rattle.mq_core.specs.Ties.{Tied}
 use Rattle.mq_core.specs.Values.{CoreValue, WritesLog, manager_of, bodies_in, behind_record, pending_record}
 use Rattle.mq_core.specs.Writes.{all_landed}
-use Rattle.mq_agents.specs.Ends.{by_place, halt_of, stopped_agent}
-use Rattle.mq_agents.specs.Written.{agent_of, stop_of}
-use Rattle.mq_agents.specs.declared.hardening.Unwritten.{Unwritten}
-use Rattle.mq_agents.specs.declared.hardening.Unwritten.TheVariants as unwritten
-use Rattle.mq_agents.proofs.WriteLaws.{wrote_as, broke_as, broke_told, halt_stopped}
+use Rattle.mq_moves.specs.from_agents.Ends.{by_place, halt_of, stopped_agent}
+use Rattle.mq_moves.specs.from_agents.Written.{agent_of, stop_of}
+use Rattle.mq_moves.specs.from_agents.{Unwritten}
+use Rattle.mq_moves.specs.from_agents.UnwrittenVariants as unwritten
+use Rattle.mq_moves.proofs.from_agents.WriteLaws.{wrote_as, broke_as, broke_told, halt_stopped}
 use Rattle.mq_receive.specs.Planned.{Plans}
 use Rattle.mq_receive.specs.Committed.{batch_record, batch_part, batch_step, IsDone, Commits}
 use Rattle.mq_receive.proofs.PlanLaws.{plan_ends}

@@ -1,7 +1,7 @@
 -- Messages of a batch wait for their places, and no more.
 use Rattle.std.proofs.Common.{◌≡◌, ℕ, zero, suc, ◌+◌, ◌<◌, Bool, true, false, cond, List, [], ◌∷◌, ◌++◌, length, get_or, take, refl, ap, arith, sym, ◌∙◌, add-one}
 use Rattle.std.specs.Str.{bytes_eq}
-use Rattle.mq_place.specs.States.{QueueState, QueueStates, change_state, expecting, unpended}
+use Rattle.mq_core.specs.from_place.States.{QueueState, QueueStates, change_state, expecting, unpended}
 use Rattle.mq_core.specs.declared.parts.Arrival.{Arrival}
 use Rattle.mq_core.proofs.PutLaws.{unpend_expect}
 use Rattle.mq_receive.specs.Placed.{expected_all, unexpected_all, unexpected_in}

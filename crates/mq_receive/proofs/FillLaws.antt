@@ -1,5 +1,5 @@
 -- The adds of a batch, one behind the other.
-use Rattle.std.proofs.Common.{◌≡◌, ℕ, suc, Bool, true, false, cond, ◌+◌, ◌-◌, ◌<◌, ◌≤◌, List, [], ◌∷◌, ◌++◌, length, get_or, drop, refl, ap, sym, subst, ◌∙◌, append_assoc, add-one, drop-cons, arith}
+use Rattle.std.proofs.Common.{◌≡◌, ℕ, suc, Bool, true, false, cond, ◌+◌, ◌-◌, ◌<◌, ◌≤◌, List, [], ◌∷◌, ◌++◌, length, get_or, drop, refl, ap, sym, subst, ◌∙◌, add-one, drop-cons, arith}
 use Rattle.std.specs.Prelude.{sum_by, count_by}
 use Rattle.std.specs.List.{flat_map, AllByRecursion}
 use Rattle.std.proofs.lemmas.List.{length-append}
@@ -11,16 +11,11 @@ use Rattle.mq_calls.specs.declared.records.Add.{Add}
 use Rattle.mq_spec_manager.specs.Agents.{received_record}
 use Rattle.mq_record.specs.Room.{Buffered, with_piece}
 use Rattle.mq_record.specs.Records.{add_bytes, IsAdd, record_bytes, received_front}
-use Rattle.mq_unit.proofs.UnitLaws.{adds_whole}
+use Rattle.mq_core.proofs.from_unit.UnitLaws.{adds_whole}
 use Rattle.mq_core.specs.declared.parts.Arrival.{Arrival}
 use Rattle.mq_core.specs.Writes.{arrival_adds, all_landed}
+use Rattle.mq_record.proofs.RoomLaws.{with_two}
 use Rattle.mq_receive.specs.Filling.{CanStand, is_lasting, adds_size, adds_bytes}
-
-with_two : (x y : List ℕ) (b : Buffered) → with_piece y (with_piece x b) ≡ with_piece (x ++ y) b
-with_two x y b =
-    let bytes : (b.bytes ++ x) ++ y ≡ b.bytes ++ (x ++ y) = append_assoc b.bytes x y in
-    let room : b.room - length x - length y ≡ b.room - length (x ++ y) = omega (arith, length-append x y) in
-    λ i. record { bytes = bytes i; room = room i }
 
 pub sum_two : (xs ys : List Add) → sum_by add_size (xs ++ ys) ≡ sum_by add_size xs + sum_by add_size ys
 sum_two [] ys = omega arith

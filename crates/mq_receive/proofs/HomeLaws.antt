@@ -4,8 +4,8 @@ use Rattle.std.specs.Prelude.{Option, Some, None, find, option_map, if◌then◌
 use Rattle.std.specs.Str.{bytes_eq}
 use Rattle.mq_calls.specs.Words.{Ident, Message, Row, Plain, has_ident}
 use Rattle.mq_spec_manager.specs.Agents.{RowAt, Standing, row_found, row_of, standing_by, standing_at}
-use Rattle.mq_place.specs.States.{QueueState, Located, queues_of, state_in, row_at, IsUnnamed, AreApart}
-use Rattle.mq_place.specs.States.{row_found as place_found}
+use Rattle.mq_core.specs.from_place.States.{QueueState, Located, queues_of, state_in, row_at, IsUnnamed, AreApart}
+use Rattle.mq_core.specs.from_place.States.{row_found as place_found}
 use Rattle.mq_core.specs.Views.{PartsValue, plain_of}
 use Rattle.mq_law_manager.proofs.Named.{name_is, name_self}
 

@@ -13,3 +13,5 @@ pub mod NeedLaws
 pub mod CommitLaws
 pub mod BrokenLaws
 pub mod EndingLaws
+pub mod from_agents
+pub mod from_core

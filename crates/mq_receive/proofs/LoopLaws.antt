@@ -3,7 +3,7 @@ use Rattle.std.proofs.Common.{◌≡◌, ℕ, suc, ◌+◌, ◌<◌, List, [], �
 use Rattle.std.specs.Prelude.{flat_map}
 use Rattle.std.proofs.lemmas.List.{append_assoc}
 use Rattle.mq_calls.specs.declared.deltas.Did.{Did}
-use Rattle.mq_place.specs.States.{QueueStates}
+use Rattle.mq_core.specs.from_place.States.{QueueStates}
 use Rattle.mq_core.specs.declared.parts.Arrival.{Arrival}
 use Rattle.mq_core.specs.Writes.{arrival_dids}
 use Rattle.mq_receive.specs.Placed.{unexpected_in}

@@ -1,46 +1,43 @@
 -- The messages of a batch take their places: each can, all is tied behind them, and the plain manager has done what they do.
-use Rattle.std.proofs.Common.{◌≡◌, ℕ, ◌+◌, ◌-◌, ◌<◌, ◌≤◌, ◌^◌, Bool, true, false, cond, List, [], ◌∷◌, length, refl, ap, arith, sym, subst, ◌∙◌, inl, inr}
+use Rattle.std.proofs.Common.{◌≡◌, ℕ, ◌+◌, ◌<◌, ◌≤◌, ◌^◌, Bool, true, false, cond, List, [], ◌∷◌, length, refl, ap, arith, sym, subst, ◌∙◌, inl, inr}
 use Rattle.std.specs.Prelude.{Option, Some, None, find, filter, not, sum_by, ◌&&◌, ◌||◌, if◌then◌else◌, flat_map}
-use Rattle.std.specs.List.{list_any, AllByRecursion}
+use Rattle.std.specs.List.{list_any}
 use Rattle.std.specs.Str.{bytes_eq}
 use Rattle.std.proofs.lemmas.Bool.Decides.{nat_tests}
 use Rattle.std.proofs.lemmas.List.Sums.{sum_by-cons}
 use Rattle.mq_calls.specs.declared.state.Item.TheVariants.{Put, Take}
 use Rattle.mq_calls.specs.State.{Queue as StateQueue}
-use Rattle.mq_calls.specs.Words.{Ident, InDoubt, Message, comes_before, less_ident, Row, LocalQueue, Plain, Among, has_ident, same_ident, keep, kept_in, selects, queue_in, local_of, is_persistent, off_list, off_lists, puts_to, is_by_priority, condition, made_due, depth_type, apply_all}
+use Rattle.mq_calls.specs.Words.{Ident, InDoubt, Message, comes_before, less_ident, Row, Plain, Among, has_ident, same_ident, kept_in, selects, queue_in, local_of, is_persistent, off_list, off_lists, puts_to, condition, apply_all}
 use Rattle.mq_calls.specs.declared.state.Item.{Item}
 use Rattle.mq_calls.specs.declared.state.Connection.{Connection}
 use Rattle.mq_spec_manager.specs.Words.{placed}
 use Rattle.mq_spec_manager.specs.Agents.{RowAt, row_found, row_of, is_pending, is_unborn, has_put, is_doubted_by, same_flag, Standing, Absent, InDoubtAt, Present, standing_by, drop_row, undoubted}
-use Rattle.mq_queue.specs.Queues.{Lacks}
-use Rattle.mq_place.specs.States.{QueueState, queues_of, state_in, on_queue, on_queues, arrived}
+use Rattle.mq_core.specs.from_place.States.{QueueState, queues_of, state_in, arrived}
 use Rattle.mq_core.specs.declared.parts.Arrival.{Arrival}
 use Rattle.mq_core.specs.Views.{PartsValue, plain_of}
 use Rattle.mq_calls.specs.Recovery.{listed}
 use Rattle.mq_calls.specs.declared.state.SenderSide.{SenderSide}
-use Rattle.mq_sides.specs.Places.{AreByName}
+use Rattle.mq_core.specs.from_sides.Places.{AreByName}
 use Rattle.mq_core.specs.declared.parts.ChannelEnds.{ChannelEnds}
-use Rattle.mq_core.specs.Ties.{EndsReady, doubt_bytes, Tied, TiedIdents, IsReady, AreCounted, HasCounts, mode_is_up, one_if, times_in_rows, times_in_queues, times_in_unit, times_in_units, waits, state_lanes, local_lanes, pending_at}
+use Rattle.mq_core.specs.Ties.{EndsReady, doubt_bytes, TiedIdents, IsReady, AreCounted, HasCounts, mode_is_up, one_if, times_in_rows, times_in_queues, times_in_unit, times_in_units, waits, pending_at}
 use Rattle.mq_core.specs.Placing.{arrived_at, due_if, put_in_place}
 use Rattle.mq_core.specs.Writes.{standing_of, arrival_changes}
-use Rattle.mq_core.proofs.PlaceLaws.{name_is, same_name, seen_kept, pending_changed, times_changed, times_insert, nowhere_of, placed_view, arrived_there, waits_less, counts_placed}
-use Rattle.mq_core.proofs.ForceLaws.{seen_on, times_on, times_keep}
+use Rattle.mq_core.proofs.PlaceLaws.{same_name, times_changed, times_insert, placed_view, arrived_there, arrived_but, ready_by, tied_due, counts_placed}
+use Rattle.mq_core.proofs.ForceLaws.{seen_on, times_keep, tied_where, tied_on}
 use Rattle.mq_core.proofs.WriteLaws.{placed_log}
-use Rattle.mq_agents.proofs.RemoveLaws.{removed_view}
-use Rattle.mq_agents.proofs.EndLaws.{with_ends, ends_view}
+use Rattle.mq_moves.proofs.from_agents.RemoveLaws.{removed_view}
+use Rattle.mq_moves.proofs.from_agents.EndLaws.{with_ends, ends_view}
+use Rattle.mq_moves.proofs.MoveLaws.{left_out}
 use Rattle.mq_law_manager.specs.Facts.{Mem, AreNamed}
-use Rattle.mq_law_manager.proofs.Lists.{bool_case, ident_yes, ident_self, ident_no}
-use Rattle.mq_law_manager.proofs.Receiving.{row_there}
+use Rattle.mq_law_manager.proofs.Lists.{ident_yes, same_self}
+use Rattle.mq_law_manager.proofs.Receiving.{row_there, or_none}
 use Rattle.mq_law_manager.proofs.Units.{behind}
 use Rattle.mq_receive.specs.Standings.{FitsAt, AreFitting, behind_all}
 use Rattle.mq_receive.specs.Placed.{dropped_at, undoubted_at, cleared_for, landed_at, landed_all, AreLanding, TiedOnWay, puts_of}
 use Rattle.mq_receive.proofs.AheadLaws.{dropped_as}
+use Rattle.mq_queue.proofs.Edits.{same_turned}
 
 -- How often an ident stands, as its standing tells
-
-turned : (a b : Ident) → same_ident a b ≡ same_ident b a
-turned a b = bool_case (same_ident b a) (λ t. same_ident b a ≡ t → same_ident a b ≡ t)
-    (λ w e. ap (same_ident a) (ident_yes b a e) ∙ ident_self a) (λ w e. ident_no a b (λ is. cc (e, ap (same_ident b) is ∙ ident_self b))) refl
 
 no_times : (i : Ident) (rows : List Row) → find (has_ident i) rows ≡ None → times_in_rows i rows ≡ 0
 no_times i [] e = refl
@@ -58,16 +55,11 @@ no_row_times i (q ∷ qs) e = by (find (has_ident i) q.rows) refl e (no_row_time
     by (Some r) w f rest = absurd cc
     by None w f rest = let here = no_times i q.rows w in let more = rest f in omega (arith, here, more)
 
-or_none : (a b : Bool) → (a || b) ≡ false → (a ≡ false) × (b ≡ false)
-or_none false false e = (refl, refl)
-or_none false true e = absurd cc
-or_none true b e = absurd cc
-
 no_put_times : (i : Ident) (items : List Item) → list_any (has_put i) items ≡ false → times_in_unit i items ≡ 0
 no_put_times i [] e = refl
 no_put_times i (Put queue m ∷ items) e =
     let z = or_none (same_ident i m.ident) (list_any (has_put i) items) e in
-    let here : one_if (same_ident m.ident i) ≡ 0 = ap one_if (turned m.ident i ∙ z.0) in
+    let here : one_if (same_ident m.ident i) ≡ 0 = ap one_if (same_turned m.ident i ∙ z.0) in
     let rest = no_put_times i items z.1 in
     omega (arith, here, rest)
 no_put_times i (Take queue ident persistent ∷ items) e = no_put_times i items e
@@ -83,34 +75,9 @@ no_unit_times i (c ∷ cs) e =
 mem_times : (i : Ident) (rows : List Row) (h : Row) → Mem h rows → h.message.ident ≡ i → 1 ≤ times_in_rows i rows
 mem_times i [] h m e = absurd m
 mem_times i (r ∷ rows) h (inl is) e =
-    let one : one_if (has_ident i r) ≡ 1 = ap one_if (ap (λ (x : Row). same_ident x.message.ident i) (sym is) ∙ ap (λ (j : Ident). same_ident j i) e ∙ ident_self i) in
+    let one : one_if (has_ident i r) ≡ 1 = ap one_if (ap (λ (x : Row). same_ident x.message.ident i) (sym is) ∙ ap (λ (j : Ident). same_ident j i) e ∙ same_self i) in
     omega (arith, one)
 mem_times i (r ∷ rows) h (inr m) e = let rest = mem_times i rows h m e in omega (arith, rest)
-
--- the rows of the ident are gone from the queue
-left_none : (from : List ℕ) (i : Ident) (rows : List Row) → times_in_rows i (keep (λ (row : Row). not (true && list_any (same_ident row.message.ident) (i ∷ []))) rows) ≡ 0
-left_none from i [] = refl
-left_none from i (row ∷ rows) = by (same_ident row.message.ident i) refl (left_none from i rows)
-  where
-    by : (b : Bool) → same_ident row.message.ident i ≡ b → times_in_rows i (keep (λ (row : Row). not (true && list_any (same_ident row.message.ident) (i ∷ []))) rows) ≡ 0
-        → times_in_rows i (cond (not (true && (b || false))) (row ∷ keep (λ (row : Row). not (true && list_any (same_ident row.message.ident) (i ∷ []))) rows) (keep (λ (row : Row). not (true && list_any (same_ident row.message.ident) (i ∷ []))) rows)) ≡ 0
-    by true e rest = rest
-    by false e rest = let none = ap one_if e in omega (arith, none, rest)
-
-left_out : (from : List ℕ) (i : Ident) (qs : List QueueState) → times_in_queues i (queues_of (on_queues (kept_in (Among from (i ∷ []))) qs)) + times_in_rows i (queue_in from (queues_of qs)).rows ≤ times_in_queues i (queues_of qs)
-left_out from i [] = omega arith
-left_out from i (s ∷ ss) = by (bytes_eq from s.queue.name) refl (left_out from i ss) (times_on i (kept_in (Among from (i ∷ []))) (λ q. times_keep i (λ (row : Row). not (selects (Among from (i ∷ [])) q.name row)) q.rows) ss)
-  where
-    by : (b : Bool) → bytes_eq from s.queue.name ≡ b
-        → times_in_queues i (queues_of (on_queues (kept_in (Among from (i ∷ []))) ss)) + times_in_rows i (queue_in from (queues_of ss)).rows ≤ times_in_queues i (queues_of ss)
-        → times_in_queues i (queues_of (on_queues (kept_in (Among from (i ∷ []))) ss)) ≤ times_in_queues i (queues_of ss)
-        → times_in_rows i (kept_in (Among from (i ∷ [])) s.queue).rows + times_in_queues i (queues_of (on_queues (kept_in (Among from (i ∷ []))) ss)) + times_in_rows i (cond b s.queue (queue_in from (queues_of ss))).rows ≤ times_in_rows i s.queue.rows + times_in_queues i (queues_of ss)
-    by true e rest less =
-        let named : bytes_eq s.queue.name from ≡ true = ap (λ (n : List ℕ). bytes_eq n from) (sym (name_is from s.queue.name e)) ∙ same_name from in
-        let none : times_in_rows i (kept_in (Among from (i ∷ [])) s.queue).rows ≡ 0 =
-        ap (λ (b : Bool). times_in_rows i (keep (λ (row : Row). not (b && list_any (same_ident row.message.ident) (i ∷ []))) s.queue.rows)) named ∙ left_none from i s.queue.rows in
-        omega (arith, none, less)
-    by false e rest less = let here = times_keep i (λ (row : Row). not (selects (Among from (i ∷ [])) s.queue.name row)) s.queue.rows in omega (arith, here, rest)
 
 -- An ident that stands nowhere once its row is dropped, and that was given
 
@@ -212,24 +179,7 @@ log_landed a x =
 tied_dropped : (landed : List Arrival) (dropped : Option (List ℕ)) (i : Ident) (x : PartsValue) → TiedOnWay landed x → TiedOnWay landed (dropped_at dropped i x)
 tied_dropped landed None i x t = t
 tied_dropped landed (Some queue) i x t =
-    let f : StateQueue → StateQueue = kept_in (Among queue (i ∷ [])) in
-    let times = λ (k : Ident). times_on k f (λ q. times_keep k (λ (row : Row). not (selects (Among queue (i ∷ [])) q.name row)) q.rows) x.queues.states in
-    record {
-      up = λ u. let w = t.up u in record { live = w.live; settled = w.settled; ends = w.ends; room = w.room; body = w.body };
-      reserved = t.reserved;
-      within = t.within;
-      queues = record {
-        lanes = λ name. seen_on f (λ q. refl) state_lanes (λ s. refl) name x.queues.states ∙ t.queues.lanes name;
-        pending = λ name. seen_on f (λ q. refl) pending_at (λ s. refl) name x.queues.states ∙ t.queues.pending name;
-      };
-      idents = record {
-        once = λ k. let less = times k in let old = t.idents.once k in omega (arith, less, old);
-        given = λ k a b c. let less = times k in let old = t.idents.given k a b c in omega (arith, less, old);
-      };
-      forced = t.forced;
-      max = t.max;
-      moment = t.moment;
-    }
+    tied_on (kept_in (Among queue (i ∷ []))) (λ q. refl) (λ k q. times_keep k (λ (row : Row). not (selects (Among queue (i ∷ [])) q.name row)) q.rows) (puts_of landed) [] x t
 
 -- what is set aside is enough where an ident goes off the lists
 off_need : (i : Ident) (o : Option InDoubt) → doubt_bytes (less_ident i o) ≡ doubt_bytes o
@@ -286,16 +236,8 @@ off_ready i e spare w =
 
 tied_undoubted : (landed : List Arrival) (b : Bool) (i : Ident) (x : PartsValue) → TiedOnWay landed x → TiedOnWay landed (undoubted_at b i x)
 tied_undoubted landed false i x t = t
-tied_undoubted landed true i x t = record {
-  up = λ u. let w = t.up u in record { live = w.live; settled = w.settled; ends = off_ready i x.ends x.log.spare w.ends; room = w.room; body = w.body };
-  reserved = t.reserved;
-  within = t.within;
-  queues = record { lanes = t.queues.lanes; pending = t.queues.pending };
-  idents = record { once = t.idents.once; given = t.idents.given };
-  forced = t.forced;
-  max = t.max;
-  moment = t.moment;
-}
+tied_undoubted landed true i x t = tied_where (puts_of landed) [] (undoubted_at true i x).ends x.log x.body x.mode x
+    (λ u. let w = t.up u in record { live = w.live; settled = w.settled; ends = off_ready i x.ends x.log.spare w.ends; room = w.room; body = w.body }) t.reserved t.within t.max t
 
 tied_cleared : (landed : List Arrival) (a : Arrival) (x : PartsValue) → TiedOnWay landed x → TiedOnWay landed (cleared_for a x)
 tied_cleared landed a x t = tied_undoubted landed (is_persistent a.message) a.message.ident (dropped_at a.dropped a.message.ident x) (tied_dropped landed a.dropped a.message.ident x t)
@@ -332,39 +274,6 @@ counts_cleared most a x h = counts_undoubted most (is_persistent a.message) a.me
 
 -- It can be placed then
 
-some_same : {X : Type 0} (a b : X) → Some a ≡ Some b → a ≡ b
-some_same a b e = grind (arith, e)
-
-all_at : (P : QueueState → Type 0) (name : List ℕ) (qs : List QueueState) (s : QueueState) → state_in name qs ≡ Some s → AllByRecursion P qs → P s
-all_at P name [] s e h = absurd cc
-all_at P name (q ∷ qs) s e h = by (bytes_eq name q.queue.name) e (all_at P name qs s)
-  where
-    by : (b : Bool) → cond b (Some q) (state_in name qs) ≡ Some s → (state_in name qs ≡ Some s → AllByRecursion P qs → P s) → P s
-    by true e rest = subst P (some_same q s e) h.0
-    by false e rest = rest e h.1
-
-ready_at : (most : ℕ) (queue : List ℕ) (m : Message) (x : PartsValue) (s : QueueState) → most + 1 < 2 ^ 64 → AreCounted most x → times_in_queues m.ident (queues_of x.queues.states) ≡ 0 → state_in queue x.queues.states ≡ Some s → 0 < s.pending
-    → (o : Option LocalQueue) → local_of queue x.defs.definitions ≡ o → Some s.by_priority ≡ local_lanes o → IsReady queue m x
-ready_at most queue m x s small counts none is wait None defined lanes = absurd cc
-ready_at most queue m x s small counts none is wait (Some q) defined lanes =
-    let counted = counts queue s is in
-    let nowhere = nowhere_of m.ident x.queues.states none in
-    record {
-      state = s;
-      local = q;
-      is = is;
-      defined = defined;
-      lanes = some_same s.by_priority (is_by_priority q.delivery) lanes;
-      can = record { expected = wait; fresh = all_at (λ (s : QueueState). Lacks m.ident s.queue.rows) queue x.queues.states s is nowhere; count = omega (arith, counted.arrivals, wait, small) };
-      fresh = nowhere;
-      due = omega (arith, counted.due, wait, small);
-    }
-
-ready_by : (most : ℕ) (queue : List ℕ) (m : Message) (x : PartsValue) (w : ℕ) → most + 1 < 2 ^ 64 → AreCounted most x → times_in_queues m.ident (queues_of x.queues.states) ≡ 0
-    → (o : Option QueueState) → state_in queue x.queues.states ≡ o → pending_at o ≡ w + 1 → state_lanes o ≡ local_lanes (local_of queue x.defs.definitions) → IsReady queue m x
-ready_by most queue m x w small counts none None is pending lanes = absurd (omega (arith, pending))
-ready_by most queue m x w small counts none (Some s) is pending lanes = ready_at most queue m x s small counts none is (omega (arith, pending)) (local_of queue x.defs.definitions) refl lanes
-
 -- an ident that stands nowhere, and was given
 pub record IsApart (i : Ident) (x : PartsValue) : Type 0 where
   pub none : times_in_queues i (queues_of x.queues.states) + times_in_units i x.desk.live ≡ 0
@@ -394,62 +303,27 @@ none_more false n k never old = omega (arith, old)
 
 tied_arrived : (a : Arrival) (landed : List Arrival) (x : PartsValue) → IsReady a.queue a.message x → IsApart a.message.ident x → TiedOnWay (a ∷ landed) x → TiedOnWay landed (arrived_at a.queue a.message x)
 tied_arrived a landed x r apart t =
-    let queue = a.queue in
     let m : Message = a.message in
-    let times = λ (i : Ident). times_changed queue (arrived m) (λ s. refl) i (one_if (same_ident m.ident i)) (λ s. times_insert i _ s.queue.rows) x.queues.states r.state r.is in
-    record {
-      up = λ u. let w = t.up u in record { live = w.live; settled = w.settled; ends = w.ends; room = w.room; body = w.body };
-      reserved = t.reserved;
-      within = t.within;
-      queues = record {
-        lanes = λ name. seen_kept queue (arrived m) (λ s. refl) state_lanes (λ s. refl) name x.queues.states r.state r.is ∙ t.queues.lanes name;
-        pending = λ name. pending_changed queue (arrived m) (λ s. refl) (λ n. n - 1) (λ s. refl) name x.queues.states r.state r.is ∙ waits_less (bytes_eq name queue) _ (waits name (puts_of landed)) _ (t.queues.pending name);
-      };
-      idents = record {
-        once = λ i.
-            let more = times i in
-            let old = t.idents.once i in
-            let one = once_more (same_ident m.ident i) (times_in_queues i (queues_of x.queues.states)) (times_in_units i x.desk.live)
-            (λ e. subst (λ (j : Ident). times_in_queues j (queues_of x.queues.states) + times_in_units j x.desk.live ≡ 0) (ident_yes m.ident i e) apart.none) old in
-            omega (arith, more, one);
-        given = λ i k b c.
-            let more = times i in
-            let old = t.idents.given i k b c in
-            let none = none_more (same_ident m.ident i) (times_in_queues i (queues_of x.queues.states)) (times_in_units i x.desk.live)
-            (λ e. let is = ident_yes m.ident i e in apart.born (ap (λ (j : Ident). j.manager) is ∙ k) (ap (λ (j : Ident). j.incarnation) is ∙ b) (let n = ap (λ (j : Ident). j.number) is in omega (arith, n, c))) old in
-            omega (arith, more, none);
-      };
-      forced = t.forced;
-      max = t.max;
-      moment = t.moment;
-    }
-
-tied_due : (b : Bool) (queue : List ℕ) (landed : List Arrival) (x : PartsValue) (s : QueueState) → state_in queue x.queues.states ≡ Some s → TiedOnWay landed x → TiedOnWay landed (due_if b queue x)
-tied_due false queue landed x s e t = t
-tied_due true queue landed x s e t =
-    let f = on_queue (made_due (depth_type (local_of queue x.defs.definitions)) x.moment) in
-    let times = λ (i : Ident). times_changed queue f (λ s. refl) i 0 (λ s. omega arith) x.queues.states s e in
-    record {
-      up = λ u. let w = t.up u in record { live = w.live; settled = w.settled; ends = w.ends; room = w.room; body = w.body };
-      reserved = t.reserved;
-      within = t.within;
-      queues = record {
-        lanes = λ name. seen_kept queue f (λ s. refl) state_lanes (λ s. refl) name x.queues.states s e ∙ t.queues.lanes name;
-        pending = λ name. seen_kept queue f (λ s. refl) pending_at (λ s. refl) name x.queues.states s e ∙ t.queues.pending name;
-      };
-      idents = record {
-        once = λ i. let same = times i in let old = t.idents.once i in omega (arith, same, old);
-        given = λ i a b c. let same = times i in let old = t.idents.given i a b c in omega (arith, same, old);
-      };
-      forced = t.forced;
-      max = t.max;
-      moment = t.moment;
-    }
+    let times = λ (i : Ident). times_changed a.queue (arrived m) (λ s. refl) i (one_if (same_ident m.ident i)) (λ s. times_insert i _ s.queue.rows) x.queues.states r.state r.is in
+    arrived_but a.queue m (puts_of landed) [] [] x r (record {
+      once = λ i.
+          let more = times i in
+          let old = t.idents.once i in
+          let one = once_more (same_ident m.ident i) (times_in_queues i (queues_of x.queues.states)) (times_in_units i x.desk.live)
+          (λ e. subst (λ (j : Ident). times_in_queues j (queues_of x.queues.states) + times_in_units j x.desk.live ≡ 0) (ident_yes m.ident i e) apart.none) old in
+          omega (arith, more, one);
+      given = λ i k b c.
+          let more = times i in
+          let old = t.idents.given i k b c in
+          let none = none_more (same_ident m.ident i) (times_in_queues i (queues_of x.queues.states)) (times_in_units i x.desk.live)
+          (λ e. let is = ident_yes m.ident i e in apart.born (ap (λ (j : Ident). j.manager) is ∙ k) (ap (λ (j : Ident). j.incarnation) is ∙ b) (let n = ap (λ (j : Ident). j.number) is in omega (arith, n, c))) old in
+          omega (arith, more, none);
+    }) t
 
 tied_placed : (a : Arrival) (landed : List Arrival) (x : PartsValue) → IsReady a.queue a.message x → IsApart a.message.ident x → TiedOnWay (a ∷ landed) x → TiedOnWay landed (put_in_place a.queue a.message x)
 tied_placed a landed x r apart t =
     let y = arrived_at a.queue a.message x in
-    tied_due (condition (local_of a.queue y.defs.definitions) a.message.md.priority (plain_of y)) a.queue landed y (arrived a.message r.state) (arrived_there a.queue a.message x r) (tied_arrived a landed x r apart t)
+    tied_due (condition (local_of a.queue y.defs.definitions) a.message.md.priority (plain_of y)) a.queue (puts_of landed) [] y (arrived a.message r.state) (arrived_there a.queue a.message x r) (tied_arrived a landed x r apart t)
 
 -- What the plain manager sees of it
 
@@ -510,7 +384,3 @@ lands_next most landed a x small up counts fits t rest =
 pub lands_all : (most : ℕ) (landed : List Arrival) (x : PartsValue) → most + 1 < 2 ^ 64 → mode_is_up x.mode ≡ true → AreCounted most x → AreFitting landed (plain_of x) → TiedOnWay landed x → HasLanded landed x
 lands_all most [] x small up counts fits t = record { ready = tt; tied = t; view = refl; log = refl }
 lands_all most (a ∷ landed) x small up counts fits t = lands_next most landed a x small up counts fits t (λ z. lands_all most landed z small)
-
--- and nothing is on its way any more
-pub landed_tied : (x : PartsValue) → TiedOnWay [] x → Tied x
-landed_tied x t = record { up = t.up; reserved = t.reserved; within = t.within; queues = t.queues; idents = t.idents; forced = t.forced; max = t.max; moment = t.moment }

@@ -9,7 +9,7 @@ use Rattle.mq_calls.specs.declared.records.Add.{Add}
 use Rattle.mq_calls.specs.declared.deltas.Did.{Did}
 use Rattle.mq_spec_manager.specs.Agents.{Landed, RowAt, Standing, Absent, InDoubtAt, Present, standing_by, standing_at, is_present, row_of, is_pending, is_unborn, is_doubted_by, same_flag, land, landed, receive, receive_landed}
 use Rattle.mq_law_manager.specs.Facts.{Sound, AreNamed}
-use Rattle.mq_law_manager.proofs.Lists.{ident_yes, ident_self}
+use Rattle.mq_law_manager.proofs.Lists.{ident_yes, same_self}
 use Rattle.mq_law_manager.proofs.Receiving.{IsStanding, IsLanding, standing_is, land_is, land_sound}
 use Rattle.mq_law_manager.proofs.QueueNames.{all_named}
 use Rattle.mq_law_manager.proofs.Units.{behind}
@@ -103,7 +103,7 @@ stands_more done a p k sound named st before =
   where
     by : (b : Bool) → same_ident k.ident a.message.ident ≡ b → standing_at k (next_at done a p) ≡ (if (b || has_landed k.ident done) then Present else standing_at k p)
     by true e = standing_own k a.message (standing_of a.dropped) a.queue (behind_all done p) sound named st (not_present a.dropped) (ident_yes k.ident a.message.ident e)
-    by false e = standing_other k a.message (standing_of a.dropped) a.queue (behind_all done p) (λ is. cc (e, ap (same_ident k.ident) (sym is), ident_self k.ident)) ∙ before
+    by false e = standing_other k a.message (standing_of a.dropped) a.queue (behind_all done p) (λ is. cc (e, ap (same_ident k.ident) (sym is), same_self k.ident)) ∙ before
 
 lands_as : (channel : List ℕ) (m : Message) (a : Arrival) (p : Plain) → land channel m p ≡ Ok (landing_of a) → IsLanding m p (Ok (landing_of a))
 lands_as channel m a p e = subst (IsLanding m p) e (land_is channel m p)

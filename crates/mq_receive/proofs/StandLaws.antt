@@ -10,7 +10,7 @@ use Rattle.mq_calls.specs.declared.state.SenderSide.{SenderSide}
 use Rattle.mq_spec_manager.specs.Words.{placed}
 use Rattle.mq_spec_manager.specs.Agents.{RowAt, row_found, row_of, doubts, is_doubted_by, is_pending, is_unborn, same_flag, Standing, Absent, InDoubtAt, Present, standing_by, standing_at, is_present, drop_row, undoubted, drop_changes}
 use Rattle.mq_law_manager.specs.Facts.{Mem, Sound, AreNamed}
-use Rattle.mq_law_manager.proofs.Lists.{bool_case, ident_yes, ident_self, ident_no, mem_inserted, one_row}
+use Rattle.mq_law_manager.proofs.Lists.{bool_case, ident_yes, same_self, ident_no, mem_inserted, one_row}
 use Rattle.mq_law_manager.proofs.Named.{name_is, name_yes, found_name, queue_set, doubt_less}
 use Rattle.mq_law_manager.proofs.Steps.{among_other}
 use Rattle.mq_law_manager.proofs.Receiving.{IsStanding, row_there, land_sound}
@@ -173,7 +173,7 @@ find_there i (r ∷ rows) h m e = by (λ n. find_there i rows h n e) (has_ident 
   where
     by : (Mem h rows → find (has_ident i) rows ≢ None) → (b : Bool) → has_ident i r ≡ b → Mem h (r ∷ rows) → cond b (Some r) (find (has_ident i) rows) ≢ None
     by rest true w n = λ f. absurd cc
-    by rest false w (inl is) = λ f. cc (w, ap (λ (x : Row). same_ident x.message.ident i) (sym is) ∙ ap (λ (j : Ident). same_ident j i) e ∙ ident_self i)
+    by rest false w (inl is) = λ f. cc (w, ap (λ (x : Row). same_ident x.message.ident i) (sym is) ∙ ap (λ (j : Ident). same_ident j i) e ∙ same_self i)
     by rest false w (inr n) = rest n
 
 row_is_there : (i : Ident) (qs : List Queue) (d : List ℕ) (h : Row) → Mem h (queue_in d qs).rows → h.message.ident ≡ i → row_of i qs ≢ None

@@ -16,9 +16,9 @@ use Rattle.mq_core.specs.Ties.{EndsReady, Tied}
 use Rattle.mq_core.specs.Forced.{IsForced, downed}
 use Rattle.mq_core.specs.Values.{bodies_in, behind_record, pending_record}
 use Rattle.mq_core.specs.Writes.{FitsRecord, all_landed}
-use Rattle.mq_agents.specs.Written.{with_receivers}
-use Rattle.mq_agents.specs.declared.hardening.Unwritten.{Unwritten}
-use Rattle.mq_agents.specs.declared.hardening.Unwritten.TheVariants as unwritten
+use Rattle.mq_moves.specs.from_agents.Written.{with_receivers}
+use Rattle.mq_moves.specs.from_agents.{Unwritten}
+use Rattle.mq_moves.specs.from_agents.UnwrittenVariants as unwritten
 use Rattle.mq_receive.specs.Filling.{adds_size}
 use Rattle.mq_receive.specs.Placed.{unexpected_in}
 

@@ -6,3 +6,5 @@ pub mod Standings
 pub mod Planned
 pub mod Placed
 pub mod Committed
+pub mod from_agents
+pub mod from_core

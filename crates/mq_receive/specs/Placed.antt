@@ -1,15 +1,14 @@
 -- A batch whose messages are placed: the manager's parts, message by message.
-use Rattle.std.specs.Prelude.{◌≡◌, ℕ, ◌+◌, ◌<◌, ◌≤◌, ◌^◌, Bool, true, false, List, [], ◌∷◌, Option, Some, None, length}
+use Rattle.std.specs.Prelude.{◌≡◌, ℕ, ◌+◌, ◌≤◌, Bool, true, false, List, [], ◌∷◌, Option, Some, None, length}
 use Rattle.mq_calls.specs.Words.{Ident, is_persistent, off_lists}
 use Rattle.mq_calls.specs.declared.state.Item.{Item}
 use Rattle.mq_calls.specs.declared.state.Item.TheVariants.{Put}
-use Rattle.mq_place.specs.States.{QueueState, QueueStates, change_state, expecting, unpended}
-use Rattle.mq_agents.specs.Removing.{removed_one}
+use Rattle.mq_core.specs.from_place.States.{QueueState, QueueStates, change_state, expecting, unpended}
+use Rattle.mq_moves.specs.from_agents.Removing.{removed_one}
 use Rattle.mq_core.specs.declared.parts.Arrival.{Arrival}
 use Rattle.mq_core.specs.Views.{PartsValue}
-use Rattle.mq_core.specs.Ties.{TiedUp, TiedQueues, TiedIdents, IsReady, AreForced, needs, mode_is_up}
+use Rattle.mq_core.specs.Ties.{TiedWith, IsReady}
 use Rattle.mq_core.specs.Placing.{with_states, put_in_place}
-use Rattle.mq_spec_manager.specs.Words.{last_moment}
 
 -- the row of a unit in doubt goes; the ident of a message that lasts goes off all lists; the message takes its place
 abbrev pub dropped_at : Option (List ℕ) → Ident → PartsValue → PartsValue
@@ -53,15 +52,8 @@ abbrev pub puts_of : List Arrival → List Item
 puts_of [] = []
 puts_of (a ∷ landed) = Put a.queue a.message ∷ puts_of landed
 
-pub record TiedOnWay (landed : List Arrival) (x : PartsValue) : Type 0 where
-  pub up : mode_is_up x.mode ≡ true → TiedUp x
-  pub reserved : mode_is_up x.mode ≡ true → x.log.reserved ≡ needs x.desk.live
-  pub within : mode_is_up x.mode ≡ true → x.log.reserved ≤ x.log.max
-  pub queues : TiedQueues (puts_of landed) x
-  pub idents : TiedIdents [] x
-  pub forced : AreForced x.desk.live
-  pub max : x.log.max < 2 ^ 32
-  pub moment : x.moment ≤ last_moment
+abbrev pub TiedOnWay : List Arrival → PartsValue → Type 0
+TiedOnWay landed x = TiedWith (puts_of landed) [] x
 
 -- There is room for these rows, which wait from now on, and for a record of so many bytes.
 pub record IsAwaited (landed : List Arrival) (need : ℕ) (x y : PartsValue) : Type 0 where

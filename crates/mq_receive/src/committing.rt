@@ -3,7 +3,6 @@ ghost use Rattle.std.specs.List.{AllByRecursion};
 ghost use Rattle.std.specs.Prelude.{◌≡◌, ◌+◌, ◌*◌, ◌<◌, ◌≤◌, ◌^◌, ◌∷◌, ◌++◌, [], true, length, flat_map, IfOk, OnOk};
 ghost use Rattle.mq_calls.specs.Words.{need, receiver_data, receiver_or};
 ghost use Rattle.mq_core.specs.Counting.{CanCount};
-ghost use Rattle.mq_moves.specs.Moving.{given_back};
 ghost use Rattle.mq_core.specs.Forced.{HasMoreRoom, IsForced};
 ghost use Rattle.mq_core.specs.Ties.{EndsReady, Tied, mode_is_up};
 ghost use Rattle.mq_core.specs.Views.{plain_of};
@@ -16,14 +15,13 @@ ghost use Rattle.mq_receive.specs.Committed.{batch_record, batch_part, side_afte
 use crate::filling::put_received;
 use crate::placing::{place_all, tell_landed, unexpect_all};
 use crate::rooms::make_room;
-use mq_agents::{Unwritten, aside_for, go_down};
 use mq_base::{ChName, Items, NoMemory};
 use mq_calls::{Did, ReceiverSide};
-use mq_core::{Arrival, Parts, StoppedWrite};
+use mq_core::below::{Effects, KeptReceiver, receiver_data, swap_side, undo_side};
+use mq_core::{Arrival, Parts, StoppedWrite, return_room};
 use mq_disk::{Disk, Stop};
-use mq_sides::{KeptReceiver, receiver_data, swap_side, undo_side};
+use mq_moves::below::{Unwritten, aside_for, go_down};
 use mq_sync::{ReceiverData, Unit};
-use mq_unit::Effects;
 
 /// Forces the record of a batch. It takes no memory.
 fn force_received<D: Disk>(
@@ -148,15 +146,6 @@ fn give_up<D: Disk>(
             },
         ),
     }
-}
-
-/// The room of a record is given back.
-fn return_room<D: Disk>(parts: &mut Parts<D>, bytes: u64)
-    requires { bytes ≤ parts.old.body.room + length parts.old.body.bytes }
-    ensures { parts.new ≡ given_back bytes parts.old }
-{
-    parts.body.clear();
-    parts.body.give_back(bytes as usize);
 }
 
 /// Tells what a commit did, in order. It takes no memory.

@@ -3,8 +3,8 @@ ghost use Rattle.std.specs.Prelude.{◌≡◌};
 ghost use Rattle.mq_calls.specs.Words.{off_list, off_lists};
 
 use mq_base::Items;
+use mq_core::below::KeptSender;
 use mq_message::Ident;
-use mq_sides::KeptSender;
 
 fn strike(side: &mut KeptSender, ident: &Ident)
     ensures { side.new ≡ off_list ident.now side.old }

@@ -9,10 +9,10 @@ ghost use Rattle.mq_receive.specs.Standings.{standing_as};
 use crate::filling::lasts;
 use mq_base::{ChName, QName};
 use mq_core::Parts;
+use mq_core::below::sender_of;
 use mq_disk::Disk;
 use mq_message::{Holder, Ident, Message};
 use mq_queue::Row;
-use mq_sides::sender_of;
 use mq_sync::{InDoubt, SenderData};
 
 /// How an ident stands at a manager (this project's choice).

@@ -2,6 +2,7 @@
 #![tactic(auto)]
 
 mod arriving;
+pub mod below;
 mod committing;
 mod doubts;
 mod filling;

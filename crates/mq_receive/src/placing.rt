@@ -8,12 +8,10 @@ use crate::doubts::strike_all;
 use crate::filling::lasts;
 use mq_base::{Items, QName};
 use mq_calls::{Did, Why};
+use mq_core::below::{Effects, IndexedQueue, Queues};
 use mq_core::{Arrival, Parts};
 use mq_disk::Disk;
-use mq_index::IndexedQueue;
 use mq_message::Ident;
-use mq_place::Queues;
-use mq_unit::Effects;
 
 /// A message waits for its place no longer.
 fn unexpect(queues: &mut Queues<IndexedQueue>, arrival: &Arrival)

@@ -6,7 +6,7 @@ ghost use Rattle.mq_calls.specs.Words.{MeetsOrWants, need};
 ghost use Rattle.mq_core.specs.Counting.{CanCount};
 ghost use Rattle.mq_spec_manager.specs.Agents.{IsUp, receive, receive_landed};
 ghost use Rattle.mq_law_manager.specs.Facts.{Sound, AreNamed};
-ghost use Rattle.mq_agents.specs.Ends.{by_place};
+ghost use Rattle.mq_moves.specs.from_agents.Ends.{by_place};
 ghost use Rattle.mq_core.specs.Ties.{Tied};
 ghost use Rattle.mq_core.specs.Values.{manager_of, WritesLog};
 ghost use Rattle.mq_core.specs.Views.{plain_of};
@@ -18,15 +18,15 @@ ghost use Rattle.mq_receive.specs.Committed.{batch_record, batch_step, IsNeed, I
 use crate::committing::{aside, commit};
 use crate::filling::lasts;
 use crate::planning::plan;
-use mq_agents::{agent_of, stop_of};
 use mq_base::{ChName, Items, NoMemory};
 use mq_calls::{AgentStop, PlaceFault};
 use mq_codes::Reason;
+use mq_core::below::can_be_kept;
 use mq_core::{Arrival, Core, Parts, put_bytes};
 use mq_disk::Disk;
 use mq_message::Message;
+use mq_moves::below::{agent_of, stop_of};
 use mq_sync::Unit;
-use mq_unit::can_be_kept;
 
 /// A message can stand in a record, where it lasts.
 fn can_stand(arrival: &Arrival) -> bool

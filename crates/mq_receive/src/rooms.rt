@@ -5,11 +5,9 @@ ghost use Rattle.mq_receive.specs.Placed.{expected_all, IsAwaited};
 
 use crate::placing::unexpect_all;
 use mq_base::NoMemory;
+use mq_core::below::{Effects, IndexedQueue, Queues};
 use mq_core::{Arrival, Parts};
 use mq_disk::Disk;
-use mq_index::IndexedQueue;
-use mq_place::Queues;
-use mq_unit::Effects;
 
 /// The messages of a batch wait for their places from now on, with the memory that they take.
 ///

@@ -1,7 +1,6 @@
 -- A receiver's state after a turn.
 use Rattle.std.specs.Prelude.{ℕ, ◌==◌, List, [], ◌∷◌, ◌++◌, Some, None, if◌then◌else◌}
-use Rattle.mq_message.specs.declared.message.Dest.{Dest}
-use Rattle.mq_message.specs.declared.message.Message.{Message}
+use Rattle.mq_frame.specs.from_message.{Dest, Message}
 use Rattle.mq_frame.specs.declared.frame.FrameKind.{FrameKind}
 use Rattle.mq_frame.specs.declared.frame.FrameKind.TheVariants.{Bind, Msg, End}
 use Rattle.mq_frame.specs.declared.frame.Seen.{Seen}

@@ -12,8 +12,7 @@ use Rattle.mq_frame.specs.declared.fault.Miss.TheVariants.{Wrong}
 use Rattle.mq_frame.specs.Frames.{flag, ident_bytes, message_bytes, IsIdent}
 use Rattle.mq_frame.specs.Reading.{◌>>=◌, IsBytes, byte_at, number_at, name_at, ident_at}
 use Rattle.mq_frame.proofs.Readers.{bind_ok, one_ok, IsBytes-rest}
-use Rattle.mq_sync.specs.declared.unit.Unit.{Unit as Luw}
-use Rattle.mq_sync.specs.declared.data.End.{End}
+use Rattle.mq_calls.specs.from_sync.{End, Unit as Luw}
 use Rattle.mq_calls.specs.declared.records.Add.{Add}
 use Rattle.mq_calls.specs.declared.records.Remove.{Remove}
 use Rattle.mq_calls.specs.declared.records.LogRecord.TheVariants as records

@@ -25,8 +25,9 @@ use Rattle.mq_frame.proofs.Readers.{bind_ok, one_ok}
 use Rattle.mq_frame.proofs.Pieces.{Reads-byte, Reads-body, Reads-number}
 use Rattle.mq_frame.proofs.Names.{Reads-name, all_no_bad}
 use Rattle.mq_frame.proofs.Parts.{Reads-dest, Reads-ident, Reads-deadline, Reads-md}
-use Rattle.mq_sync.specs.declared.data.End.{End}
-use Rattle.mq_sync.specs.declared.data.End.TheVariants as ends
+use Rattle.mq_calls.specs.from_sync.{End}
+use Rattle.mq_calls.specs.from_sync.EndVariants as ends
+use Rattle.mq_frame.proofs.KindReaders.{flag_is}
 use Rattle.mq_record.specs.declared.record.Operation.{Operation}
 use Rattle.mq_record.specs.declared.record.Operation.TheVariants.{Set, Delete}
 use Rattle.mq_record.specs.Records.{operation_number, end_number, add_bytes, remove_bytes, IsChannel, IsUnit, IsKept, IsAdd, IsRemove}
@@ -139,11 +140,6 @@ exact_unit =
       back = λ unit h. refl;
       are = λ unit h. (h.session, (h.n, tt));
     })
-
-flag_is : (n : ℕ) → n ≤ 1 → flag (eqb n 1) ≡ n
-flag_is zero h = refl
-flag_is (suc zero) h = refl
-flag_is (suc (suc n)) h = absurd (omega arith)
 
 flag_back : (b : Bool) → eqb (flag b) 1 ≡ b
 flag_back true = refl

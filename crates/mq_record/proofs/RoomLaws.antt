@@ -4,7 +4,7 @@ use Rattle.std.specs.List.{concat}
 use Rattle.std.proofs.lemmas.List.{append-nil, length-append}
 use Rattle.mq_record.specs.Room.{Buffered, with_piece}
 
-with_two : (x y : List ℕ) (b : Buffered) → with_piece y (with_piece x b) ≡ with_piece (x ++ y) b
+pub with_two : (x y : List ℕ) (b : Buffered) → with_piece y (with_piece x b) ≡ with_piece (x ++ y) b
 with_two x y b =
     let bytes : (b.bytes ++ x) ++ y ≡ b.bytes ++ (x ++ y) = append_assoc b.bytes x y in
     let room : b.room - length x - length y ≡ b.room - length (x ++ y) = omega (arith, length-append x y) in

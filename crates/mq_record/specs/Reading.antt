@@ -12,9 +12,8 @@ use Rattle.mq_frame.specs.declared.fault.Miss.{Miss}
 use Rattle.mq_frame.specs.declared.fault.Miss.TheVariants.{Wrong}
 use Rattle.mq_frame.specs.Frames.{most_body}
 use Rattle.mq_frame.specs.Reading.{◌>>=◌, byte_at, number_at, piece_at, name_at, dest_at, ident_at, deadline_at, md_at}
-use Rattle.mq_sync.specs.declared.unit.Unit.{Unit as Luw}
-use Rattle.mq_sync.specs.declared.data.End.{End}
-use Rattle.mq_sync.specs.declared.data.End.TheVariants as ends
+use Rattle.mq_calls.specs.from_sync.{End, Unit as Luw}
+use Rattle.mq_calls.specs.from_sync.EndVariants as ends
 use Rattle.mq_calls.specs.declared.records.Add.{Add}
 use Rattle.mq_calls.specs.declared.records.Remove.{Remove}
 use Rattle.mq_calls.specs.declared.records.LogRecord.TheVariants as records

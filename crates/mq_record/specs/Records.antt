@@ -6,11 +6,10 @@ use Rattle.mq_base.specs.Name.{padded, IsName}
 use Rattle.mq_message.specs.declared.message.Ident.{Ident}
 use Rattle.mq_message.specs.declared.message.Message.{Message}
 use Rattle.mq_frame.specs.Frames.{ident_bytes, message_bytes, flag, IsIdent, IsMessage, HasWords}
-use Rattle.mq_sync.specs.declared.unit.Unit.{Unit as Luw}
-use Rattle.mq_sync.specs.declared.data.End.{End}
-use Rattle.mq_sync.specs.declared.data.End.TheVariants as ends
-use Rattle.mq_objects.specs.declared.change.ObjectChange.{ObjectChange}
-use Rattle.mq_objects.specs.declared.change.ObjectChange.TheVariants as changes
+use Rattle.mq_calls.specs.from_sync.{End, Unit as Luw}
+use Rattle.mq_calls.specs.from_sync.EndVariants as ends
+use Rattle.mq_calls.specs.from_objects.{ObjectChange}
+use Rattle.mq_calls.specs.from_objects.ObjectChangeVariants as changes
 use Rattle.mq_calls.specs.declared.records.Add.{Add}
 use Rattle.mq_calls.specs.declared.records.Remove.{Remove}
 use Rattle.mq_calls.specs.declared.records.LogRecord.{LogRecord}

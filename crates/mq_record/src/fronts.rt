@@ -10,9 +10,9 @@ ghost use Rattle.mq_record.specs.Records.{record_bytes, operation_number, end_nu
 
 use crate::record::Operation;
 use mq_base::{ChName, QName};
+use mq_calls::below::{End, Unit};
 use mq_message::Ident;
 use mq_message::fields::{put_array, put_u8, put_u32, put_u64};
-use mq_sync::{End, Unit};
 
 fn flag(set: bool) -> u8
     ensures { result ≡ flag set }

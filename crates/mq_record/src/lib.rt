@@ -2,6 +2,7 @@
 //! and messages are written into room that was taken before.
 #![tactic(auto)]
 
+pub mod below;
 mod buffer;
 mod fault;
 mod fronts;

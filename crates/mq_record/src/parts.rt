@@ -6,9 +6,9 @@ ghost use Rattle.mq_record.specs.Reading.{word_of, channel_in, channel_at, unit_
 
 use crate::record::Operation;
 use mq_base::ChName;
+use mq_calls::below::{End, Unit};
 use mq_frame::Miss;
 use mq_frame::reading::{byte_at, piece_at, u32_at, u64_at};
-use mq_sync::{End, Unit};
 
 /// The place of the first blank.
 fn first_blank(field: &[u8]) -> Option<usize>

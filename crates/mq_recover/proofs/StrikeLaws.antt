@@ -9,6 +9,7 @@ use Rattle.std.specs.declared.cmp.Ordering.TheVariants.{Less, Equal, Greater}
 use Rattle.std.proofs.lemmas.Bool.Decides.{nat_tests}
 use Rattle.mq_message.specs.declared.message.Ident.{Ident}
 use Rattle.mq_queue.specs.Rows.{same_ident}
+use Rattle.mq_queue.proofs.Edits.{same_is, same_self}
 use Rattle.mq_sync.specs.declared.data.Doubt.{Doubt}
 use Rattle.mq_sync.specs.declared.data.InDoubt.{InDoubt}
 use Rattle.mq_sync.specs.declared.data.SenderData.{SenderData}
@@ -123,12 +124,6 @@ sides_same struck now same (e ∷ es) =
     ap (λ (o : Option InDoubt). record { channel = e.0.name; hardened = record e.1.hardened { in_doubt = o } } ∷ sender_sides now es) (doubt_same struck now e.1.since same e.1.hardened.in_doubt)
     ∙ ap (λ (ss : List SenderSide). sender_side struck e ∷ ss) (sides_same struck now same es)
 
-ident_is : (a b : Ident) → same_ident a b ≡ true → a ≡ b
-ident_is a b e = grind (arith, nat_tests)
-
-ident_same : (a : Ident) → same_ident a a ≡ true
-ident_same a = grind (arith, nat_tests)
-
 module _ (struck now : Ident → ℕ) (clock : ℕ) (ident : Ident) (is : (i : Ident) → now i ≡ (if same_ident ident i then clock + 1 else struck i)) where
   one : (since : ℕ) → since ≤ clock → (x : Ident) (t : Bool) → same_ident ident x ≡ t → nat_le (now x) since ≡ (nat_le (struck x) since && not t)
   one since le x true e =
@@ -179,7 +174,7 @@ module _ (struck now : Ident → ℕ) (clock : ℕ) (ident : Ident) (is : (i : I
 
 module _ (known : Ident → Bool) (clock : ℕ) (struck : Ident → ℕ) (ident : Ident) (un : known ident ≡ false) where
   unlike : (other : Ident) (t : Bool) → same_ident ident other ≡ t → known other ≡ true → t ≡ false
-  unlike other true e yes_ = absurd (cc (un, yes_, ident_is ident other e))
+  unlike other true e yes_ = absurd (cc (un, yes_, same_is ident other e))
   unlike other false e yes_ = refl
 
   less_step : (keep : Ident → Bool) (x : Ident) (xs : List Ident) (b : Bool) → same_ident ident x ≡ false → filter (λ other. not (same_ident ident other)) (filter keep xs) ≡ filter keep xs
@@ -210,7 +205,7 @@ module _ (known : Ident → Bool) (clock : ℕ) (struck : Ident → ℕ) (ident 
 pub each_listed : (known : Ident → Bool) (idents : List Ident) → ((other : Ident) → list_any (λ (i : Ident). same_ident i other) idents ≡ true → known other ≡ true) → AllByRecursion (λ (i : Ident). known i ≡ true) idents
 each_listed known [] f = tt
 each_listed known (x ∷ xs) f = (
-  f x (ap (λ (b : Bool). b || list_any (λ (i : Ident). same_ident i x) xs) (ident_same x)),
+  f x (ap (λ (b : Bool). b || list_any (λ (i : Ident). same_ident i x) xs) (same_self x)),
   each_listed known xs (λ other e. f other (right (same_ident x other) (list_any (λ (i : Ident). same_ident i other) xs) e)),
 )
   where

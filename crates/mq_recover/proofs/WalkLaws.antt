@@ -11,9 +11,9 @@ use Rattle.mq_log.specs.Walk.{Walks}
 use Rattle.mq_log.specs.declared.bodies.Split.{Split}
 use Rattle.mq_calls.specs.State.{Given}
 use Rattle.mq_calls.specs.declared.image.Image.{Image}
-use Rattle.mq_spec_log.specs.Applies.{Start, suits, applies, was_given, idents_in, is_in_bounds}
-use Rattle.mq_spec_log.specs.Records.{doing}
-use Rattle.mq_spec_log.specs.Bodies.{record_of, behind, or_place, image_from, empty_image, begins, image}
+use Rattle.mq_recover_read.specs.from_spec_log.Applies.{Start, suits, applies, was_given, idents_in, is_in_bounds}
+use Rattle.mq_recover_read.specs.from_spec_log.Records.{doing}
+use Rattle.mq_recover_read.specs.from_spec_log.Bodies.{record_of, behind, or_place, image_from, empty_image, begins, image}
 use Rattle.mq_recover.specs.declared.recovering.Recovering.{Recovering}
 use Rattle.mq_recover.specs.declared.recovery.RecoverFault.{RecoverFault}
 use Rattle.mq_recover.specs.declared.recovery.RecoverFault.TheVariants.{BadRecord, NoMemory}

@@ -8,8 +8,8 @@ use Rattle.mq_recover.specs.declared.recovering.Recovering.{Recovering}
 use Rattle.mq_recover.specs.Recovering.{seen}
 use Rattle.mq_calls.specs.State.{Given}
 use Rattle.mq_calls.specs.declared.image.Image.{Image}
-use Rattle.mq_spec_log.specs.Applies.{Start}
-use Rattle.mq_spec_log.specs.Applies.Start.{First, Later}
+use Rattle.mq_recover_read.specs.from_spec_log.Applies.{Start}
+use Rattle.mq_recover_read.specs.from_spec_log.Applies.Start.{First, Later}
 
 -- a start as the code names it
 abbrev pub start_in : code.Start → Start

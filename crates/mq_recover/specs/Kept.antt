@@ -6,6 +6,7 @@ use Rattle.std.specs.Cmp.Lexicographic.{slice_cmp}
 use Rattle.std.specs.declared.cmp.Ordering.{Ordering}
 use Rattle.indexmap.specs.IndexMap.{IndexMap, get}
 use Rattle.mq_message.specs.declared.message.Ident.{Ident}
+use Rattle.mq_queue.specs.Rows.{same_ident}
 use Rattle.mq_sync.specs.declared.data.InDoubt.{InDoubt}
 use Rattle.mq_sync.specs.declared.data.SenderData.{SenderData}
 use Rattle.mq_sync.specs.declared.data.ReceiverData.{ReceiverData}
@@ -14,8 +15,6 @@ use Rattle.mq_calls.specs.Reads.{sender_in}
 use Rattle.mq_calls.specs.Changes.{set_sender}
 use Rattle.mq_calls.specs.declared.state.SenderSide.{SenderSide}
 use Rattle.mq_calls.specs.declared.state.ReceiverSide.{ReceiverSide}
-use Rattle.mq_shelves.specs.declared.spots.IdentKey.{IdentKey}
-use Rattle.mq_shelves.specs.Spots.{key_of, same_key}
 use Rattle.mq_recover.specs.declared.named.ByName.{ByName}
 use Rattle.mq_recover.specs.declared.kept.Kept.{Kept}
 
@@ -31,12 +30,12 @@ abbrev pub or_never : Option ℕ → ℕ
 or_never None = 0
 or_never (Some n) = n
 
-abbrev pub struck_at : {S : Type 0} → IndexMap IdentKey ℕ S → Ident → ℕ
-struck_at struck ident = or_never (get same_key struck (key_of ident))
+abbrev pub struck_at : {S : Type 0} → IndexMap Ident ℕ S → Ident → ℕ
+struck_at struck ident = or_never (get same_ident struck ident)
 
 -- whether it is noted at all
-abbrev pub is_known : {S : Type 0} → IndexMap IdentKey ℕ S → Ident → Bool
-is_known struck ident = is_some (get same_key struck (key_of ident))
+abbrev pub is_known : {S : Type 0} → IndexMap Ident ℕ S → Ident → Bool
+is_known struck ident = is_some (get same_ident struck ident)
 
 -- a unit in doubt without the idents that were struck since
 abbrev pub left_of : (Ident → ℕ) → ℕ → Option InDoubt → Option InDoubt

@@ -7,8 +7,8 @@ use Rattle.mq_queue.specs.Rows.{same_ident}
 use Rattle.mq_calls.specs.declared.records.Add.{Add}
 use Rattle.mq_calls.specs.declared.image.Image.{Image}
 use Rattle.mq_calls.specs.Changes.{comes_before}
-use Rattle.mq_spec_log.specs.Shelves.{removed}
-use Rattle.mq_spec_log.specs.Applies.{can_add, can_remove}
+use Rattle.mq_recover_read.specs.from_spec_log.Shelves.{removed}
+use Rattle.mq_recover_read.specs.from_spec_log.Applies.{can_add, can_remove}
 
 -- the image so far
 abbrev pub seen : Recovering → Image

@@ -3,8 +3,8 @@ ghost use Rattle.std.specs.Prelude.{◌≡◌};
 ghost use Rattle.std.specs.List.{list_all};
 ghost use Rattle.mq_calls.specs.declared.records.Add.{Add};
 ghost use Rattle.mq_calls.specs.declared.records.Remove.{Remove};
-ghost use Rattle.mq_spec_log.specs.Applies.{is_ident_below, is_unit_below, is_below, is_in_bounds, idents_in};
-ghost use Rattle.mq_spec_log.specs.Applies.Start.{Later};
+ghost use Rattle.mq_recover_read.specs.from_spec_log.Applies.{is_ident_below, is_unit_below, is_below, is_in_bounds, idents_in};
+ghost use Rattle.mq_recover_read.specs.from_spec_log.Applies.Start.{Later};
 ghost use Rattle.mq_recover.specs.Found.{start_in};
 ghost use Rattle.mq_recover.specs.Recovering.{was_given_by};
 

@@ -1,6 +1,7 @@
 //! Recovery: the image that the bodies of a log tell.
 #![tactic(auto)]
 
+pub mod below;
 mod bounds;
 mod kept;
 mod named;

@@ -1,37 +1,19 @@
 //! Changes of objects as a log tells them: which of them it may tell, and what becomes of the rows.
-ghost use Rattle.std.specs.Prelude.{◌≡◌, OnOk, IfOk};
-ghost use Rattle.mq_objects.specs.Names.{space_in, space_of, name_of, is_kind, is_transmission, is_by_priority, local_of, object_in, named};
-ghost use Rattle.mq_objects.specs.Slots.{present};
+ghost use Rattle.std.specs.Prelude.{◌≡◌, OnOk};
+ghost use Rattle.mq_objects.specs.Names.{space_in, space_of, name_of, local_of, object_in, named};
 ghost use Rattle.mq_calls.specs.Changes.{lane_of};
-ghost use Rattle.mq_spec_log.specs.Applies.{agrees, fits, same_form, can_replace, can_set, is_empty_local, can_delete, can_change};
-ghost use Rattle.mq_spec_log.specs.Records.{shelf_if, shelves_after};
+ghost use Rattle.mq_recover_read.specs.from_spec_log.Applies.{agrees, fits, same_form, can_replace, can_set, is_empty_local, can_delete, can_change};
+ghost use Rattle.mq_recover_read.specs.from_spec_log.Records.{shelf_if, shelves_after};
 
-use mq_base::{Items, NoMemory, QName};
+use mq_base::{NoMemory, QName};
 use mq_message::Message;
 use mq_objects::{
-    Definitions, Defs, Delivery, LocalQueue, NameSpace, Object, ObjectChange, Subject, Usage,
+    Defs, LocalQueue, NameSpace, Object, ObjectChange, Subject, is_by_priority, is_kind,
+    is_transmission,
 };
 use mq_queue::lane_at;
 use mq_shelves::Shelves;
 use std::alloc::Global;
-
-fn is_transmission(usage: Usage) -> bool
-    ensures { result ≡ is_transmission usage }
-{
-    match usage {
-        Usage::Normal => false,
-        Usage::Transmission => true,
-    }
-}
-
-fn is_by_priority(delivery: Delivery) -> bool
-    ensures { result ≡ is_by_priority delivery }
-{
-    match delivery {
-        Delivery::Priority => true,
-        Delivery::Fifo => false,
-    }
-}
 
 fn agrees(a: bool, b: bool) -> bool
     ensures { result ≡ agrees a b }
@@ -121,19 +103,6 @@ fn can_set(defs: &Defs, new: &Object, shelves: &Shelves) -> bool
     }
 }
 
-fn is_kind(subject: &Subject, object: &Object) -> bool
-    ensures { result ≡ is_kind subject.now object.now }
-{
-    match (subject, object) {
-        (Subject::Local(_), Object::Local(_)) => true,
-        (Subject::Alias(_), Object::Alias(_)) => true,
-        (Subject::Remote(_), Object::Remote(_)) => true,
-        (Subject::Channel(_), Object::Channel(_)) => true,
-        (Subject::Process(_), Object::Process(_)) => true,
-        _ => false,
-    }
-}
-
 fn is_empty_local(subject: &Subject, shelves: &Shelves) -> bool
     ensures { result ≡ is_empty_local subject.now shelves.now }
 {
@@ -195,27 +164,4 @@ pub fn change_shelves(
         }
         _ => Ok(()),
     }
-}
-
-fn copy_objects(alloc: Global, slots: &[Option<Object>]) -> Result<Items<Object>, NoMemory>
-    ensures { IfOk result (λ objects. objects ≡ present slots.now) }
-{
-    let mut objects = Items::new(alloc);
-    for slot in slots {
-        let Some(object) = slot else {
-            continue;
-        };
-        objects.push(object.try_clone(alloc)?)?;
-    }
-    Ok(objects)
-}
-
-/// A copy of the definitions, in order of definition.
-pub fn copy_definitions(alloc: Global, defs: &Defs) -> Result<Definitions, NoMemory>
-    ensures { IfOk result (λ d. d ≡ defs.now.definitions) }
-{
-    Ok(Definitions {
-        objects: copy_objects(alloc, defs.slots())?,
-        manager: defs.manager().try_clone(alloc)?,
-    })
 }

@@ -3,7 +3,7 @@ ghost use Rattle.std.specs.Prelude.{◌≡◌, ◌+◌, ◌<◌, ◌^◌, ℕ, B
 ghost use Rattle.mq_log.specs.Bodies.{frames, AllFit};
 ghost use Rattle.mq_log.specs.Walk.{Walks};
 ghost use Rattle.mq_calls.specs.State.{Given};
-ghost use Rattle.mq_spec_log.specs.Bodies.{begins, image, image_from, empty_image, is_started};
+ghost use Rattle.mq_recover_read.specs.from_spec_log.Bodies.{begins, image, image_from, empty_image, is_started};
 ghost use Rattle.mq_recover.specs.declared.recovery.RecoverFault.TheVariants as faults;
 ghost use Rattle.mq_recover.specs.Recovering.{seen};
 ghost use Rattle.mq_recover.specs.Found.{start_in, given_as, walked, Recovers, Told};

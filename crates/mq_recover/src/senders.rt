@@ -4,7 +4,7 @@ ghost use Rattle.mq_sync.specs.declared.data.SenderData.{SenderData};
 ghost use Rattle.mq_sync.specs.Settlement.{sender_or, data_prepared, data_settled, settle_by};
 ghost use Rattle.mq_calls.specs.Reads.{sender_in};
 ghost use Rattle.mq_calls.specs.Changes.{set_sender, off_lists};
-ghost use Rattle.mq_spec_log.specs.Applies.{is_unit_in_doubt};
+ghost use Rattle.mq_recover_read.specs.from_spec_log.Applies.{is_unit_in_doubt};
 ghost use Rattle.mq_recover.specs.Kept.{struck_at, hardened_of, sender_sides};
 
 use crate::kept::Kept;
@@ -15,8 +15,7 @@ use indexmap::IndexMap;
 use mq_base::{ChName, Items, NoMemory, QName};
 use mq_calls::SenderSide;
 use mq_message::Ident;
-use mq_shelves::IdentKey;
-use mq_sync::{InDoubt, SenderData, Unit};
+use mq_sync::{InDoubt, SenderData, Unit, copy_doubt};
 use std::alloc::Global;
 use std::collections::BTreeMap;
 use std::marker::Model;
@@ -24,7 +23,7 @@ use std::marker::Model;
 // The list of those that are left.
 fn sides_left(
     alloc: Global,
-    struck: &IndexMap<IdentKey, u64>,
+    struck: &IndexMap<Ident, u64>,
     sides: BTreeMap<ByName, Kept>,
 ) -> Result<Items<SenderSide>, NoMemory>
     ensures { IfOk result (λ found. found ≡ sender_sides (struck_at struck.now) sides.entries) }
@@ -48,27 +47,10 @@ fn sides_left(
     Ok(found)
 }
 
-fn copy_doubt(alloc: Global, doubt: &Option<InDoubt>) -> Result<Option<InDoubt>, NoMemory>
-    ensures { IfOk result (λ copy. copy ≡ doubt.now) }
-{
-    match doubt {
-        None => Ok(None),
-        Some(doubt) => {
-            let idents = Items::from_slice(alloc, doubt.idents.as_slice())?;
-            Ok(Some(InDoubt {
-                unit: doubt.unit,
-                queue: doubt.queue,
-                idents,
-                last: doubt.last,
-            }))
-        }
-    }
-}
-
 // A copy of what one has hardened, without the idents that were struck.
 fn copy_hardened(
     alloc: Global,
-    struck: &IndexMap<IdentKey, u64>,
+    struck: &IndexMap<Ident, u64>,
     kept: &Kept,
 ) -> Result<SenderData, NoMemory>
     ensures { IfOk result (λ hardened. hardened ≡ hardened_of (struck_at struck.now) kept.now) }
@@ -86,7 +68,7 @@ fn copy_hardened(
 // Copies of the list of those that are left.
 fn copy_sides(
     alloc: Global,
-    struck: &IndexMap<IdentKey, u64>,
+    struck: &IndexMap<Ident, u64>,
     sides: &BTreeMap<ByName, Kept>,
 ) -> Result<Items<SenderSide>, NoMemory>
     ensures { IfOk result (λ copies. copies ≡ sender_sides (struck_at struck.now) sides.now.entries) }
@@ -107,7 +89,7 @@ fn copy_sides(
 pub struct Senders {
     sides: BTreeMap<ByName, Kept>,
     // When idents were struck; of another than these none need be looked for in the lists.
-    struck: IndexMap<IdentKey, u64>,
+    struck: IndexMap<Ident, u64>,
     // How many strikes there were.
     clock: u64,
 }

@@ -3,7 +3,7 @@ ghost use Rattle.std.specs.Prelude.{◌≡◌, ℕ, ◌≤◌, Bool, true, Some,
 ghost use Rattle.std.specs.BTreeMap.{insert_entry};
 ghost use Rattle.mq_message.specs.declared.message.Ident.{Ident};
 ghost use Rattle.mq_calls.specs.Reads.{sender_in};
-ghost use Rattle.mq_spec_log.specs.Applies.{is_unit_in_doubt};
+ghost use Rattle.mq_recover_read.specs.from_spec_log.Applies.{is_unit_in_doubt};
 ghost use Rattle.mq_sync.specs.declared.data.SenderData.{SenderData};
 ghost use Rattle.mq_sync.specs.Settlement.{sender_or, data_prepared, data_settled, settle_by};
 ghost use Rattle.mq_recover.specs.Kept.{name_cmp, key_named, blank_kept, hardened_of, sender_sides, IsKept, EachKept, IsListed, HasSet};

@@ -3,9 +3,9 @@ ghost use Rattle.std.specs.Prelude.{◌≡◌, ◌&&◌, max, nat_lt, IfOk, Some
 ghost use Rattle.mq_calls.specs.declared.records.LogRecord.TheVariants as records;
 ghost use Rattle.mq_sync.specs.declared.data.End.TheVariants as ends;
 ghost use Rattle.mq_sync.specs.Settlement.{data_settled, settle_by};
-ghost use Rattle.mq_spec_log.specs.Applies.{suits, applies, can_change, can_prepare, can_receive, can_number, can_add_all, can_remove_all, is_unit, is_above, is_unit_in_doubt};
-ghost use Rattle.mq_spec_log.specs.Records.{doing, settled_rows, set_number};
-ghost use Rattle.mq_spec_log.specs.Shelves.{sender_at, receiver_at, with_sender, added, removed, added_all, removed_all};
+ghost use Rattle.mq_recover_read.specs.from_spec_log.Applies.{suits, applies, can_change, can_prepare, can_receive, can_number, can_add_all, can_remove_all, is_unit, is_above, is_unit_in_doubt};
+ghost use Rattle.mq_recover_read.specs.from_spec_log.Records.{doing, settled_rows, set_number};
+ghost use Rattle.mq_recover_read.specs.from_spec_log.Shelves.{sender_at, receiver_at, with_sender, added, removed, added_all, removed_all};
 ghost use Rattle.mq_recover.specs.Recovering.{seen, Does, can_move};
 ghost use Rattle.mq_recover.specs.Found.{start_in, given_as};
 

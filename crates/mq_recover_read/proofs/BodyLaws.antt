@@ -2,11 +2,11 @@
 use Rattle.std.proofs.Common.{◌≡◌, ℕ, List, [], ◌∷◌, Option, Some, None, Result, Ok, Err, refl, sym, ap, ◌∙◌}
 use Rattle.mq_frame.specs.declared.fault.Miss.{Miss}
 use Rattle.mq_frame.specs.Reading.{IsBytes}
-use Rattle.mq_record.specs.declared.record.WrittenRecord.{WrittenRecord}
-use Rattle.mq_record.specs.Records.{IsBodyOf}
-use Rattle.mq_record.specs.Reading.{Read, record_at}
-use Rattle.mq_record.proofs.BodyLaws.{body_again, is_body}
-use Rattle.mq_calls.specs.declared.records.LogRecord.{LogRecord}
+use Rattle.mq_spec_log.specs.from_record.{WrittenRecord}
+use Rattle.mq_spec_log.specs.from_record.Records.{IsBodyOf}
+use Rattle.mq_spec_log.specs.from_record.Reading.{Read, record_at}
+use Rattle.mq_spec_log.proofs.from_record.BodyLaws.{body_again, is_body}
+use Rattle.mq_spec_log.specs.from_calls.{LogRecord}
 use Rattle.mq_spec_log.specs.Bodies.{meaning, meaning_of, record_of}
 
 -- a record is read as what it means

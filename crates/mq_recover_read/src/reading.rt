@@ -5,9 +5,8 @@ ghost use Rattle.mq_spec_log.specs.Bodies.{changing, record_of};
 
 use crate::texts::change_of;
 use mq_base::NoMemory;
-use mq_calls::LogRecord;
 use mq_objects::ObjectChange;
-use mq_record::{BodyFault, WrittenRecord, read_record};
+use mq_spec_log::below::{BodyFault, LogRecord, WrittenRecord, read_record};
 use std::alloc::Global;
 
 fn changing(change: Option<ObjectChange>) -> Option<LogRecord>

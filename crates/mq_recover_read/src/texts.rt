@@ -4,19 +4,19 @@ ghost use Rattle.std.specs.Prelude.{◌≡◌, ◌==◌, ◌&&◌, length, count
 ghost use Rattle.mq_objects.specs.Attributes.{attributes, manager_attributes};
 ghost use Rattle.mq_objects.specs.Defaults.{new_manager};
 ghost use Rattle.mq_objects.specs.Settings.{set_all_manager};
-ghost use Rattle.mq_sc_apply.specs.Planned.{defined_object};
-ghost use Rattle.mq_sc_parse.specs.Splitting.{items_of};
-ghost use Rattle.mq_sc_parse.specs.Parsing.{parse_of};
+ghost use Rattle.mq_spec_log.specs.from_sc_apply.Planned.{defined_object};
+ghost use Rattle.mq_spec_log.specs.from_sc_parse.Splitting.{items_of};
+ghost use Rattle.mq_spec_log.specs.from_sc_parse.Parsing.{parse_of};
 ghost use Rattle.mq_spec_log.specs.Texts.{has_effect, is_plain, gives_all, defined_if, altered_if, meant_by, meant_in, meant_of, change_in};
 
 use mq_base::NoMemory;
 use mq_objects::{
     AlterManager, ChannelKind, Define, ManagerAttributes, Object, ObjectChange, Setting,
 };
-use mq_record::Operation;
-use mq_sc_apply::defined_object;
 use mq_sc_lex::{LexFault, Line, commands};
-use mq_sc_parse::{Command, Item, ScFault, has_word, items_of, parse};
+use mq_spec_log::below::{
+    Command, Item, Operation, ScFault, defined_object, has_word, items_of, parse,
+};
 use std::alloc::Global;
 
 fn has_effect(setting: &Setting) -> bool

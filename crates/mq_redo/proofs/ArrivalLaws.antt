@@ -18,7 +18,7 @@ use Rattle.mq_spec_manager.specs.Stops.{lasts}
 use Rattle.mq_spec_manager.specs.Agents.{received_part, drop_did}
 use Rattle.mq_core.specs.declared.parts.Arrival.{Arrival}
 use Rattle.mq_core.specs.Writes.{all_landed, arrival_adds, arrival_dids, standing_of}
-use Rattle.mq_unit.specs.Told.{Telling}
+use Rattle.mq_core.specs.from_unit.Told.{Telling}
 use Rattle.mq_redo.specs.Redone.{redone_part, only_if, removed_of, is_in, adds_ident, dropped_of, arrived_of}
 use Rattle.mq_redo.proofs.UnitLaws.{only}
 

@@ -6,7 +6,7 @@ use Rattle.mq_message.specs.declared.message.Ident.{Ident}
 use Rattle.mq_queue.specs.declared.row.Row.{Row}
 use Rattle.mq_queue.specs.Rows.{has_ident}
 use Rattle.mq_calls.specs.State.{Queue}
-use Rattle.mq_place.specs.States.{QueueState, Located, row_at, row_found, queues_of}
+use Rattle.mq_core.specs.from_place.States.{QueueState, Located, row_at, row_found, queues_of}
 
 found_any : (ident : Ident) (rows : List Row) → is_some (find (has_ident ident) rows) ≡ list_any (has_ident ident) rows
 found_any ident [] = refl

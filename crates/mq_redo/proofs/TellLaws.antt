@@ -2,7 +2,7 @@
 use Rattle.std.proofs.Common.{◌≡◌, ℕ, suc, ◌+◌, ◌<◌, ◌≤◌, List, ◌∷◌, ◌++◌, length, get_or, drop, ap, sym, ◌∙◌, append_assoc, add-one, drop-cons, arith}
 use Rattle.std.specs.List.{flat_map}
 use Rattle.mq_calls.specs.declared.deltas.Did.{Did}
-use Rattle.mq_unit.specs.Told.{Telling}
+use Rattle.mq_core.specs.from_unit.Told.{Telling}
 
 module _ {A : Type 0} (f : A → List Did) where
   -- what is left to tell, and what room is left

@@ -2,12 +2,12 @@
 use Rattle.std.proofs.Common.{◌≡◌, ℕ, ◌+◌, ◌<◌, ◌≤◌, Bool, true, false, cond, List, [], ◌∷◌, ◌++◌, refl, ap, arith, sym, subst, ◌∙◌, inl, inr}
 use Rattle.std.specs.Prelude.{Option, Some, None, is_some, if◌then◌else◌, filter, ◌||◌}
 use Rattle.std.specs.List.{flat_map}
-use Rattle.std.proofs.lemmas.Bool.Decides.{nat_tests}
 use Rattle.std.proofs.lemmas.List.Elements.{filter-append}
 use Rattle.mq_base.specs.Members.{Mem}
 use Rattle.mq_message.specs.declared.message.Ident.{Ident}
 use Rattle.mq_message.specs.declared.message.Message.{Message}
 use Rattle.mq_queue.specs.Rows.{same_ident}
+use Rattle.mq_queue.proofs.Edits.{same_self, same_turned}
 use Rattle.mq_calls.specs.declared.deltas.Did.{Did}
 use Rattle.mq_calls.specs.declared.deltas.Did.TheVariants as did
 use Rattle.mq_calls.specs.declared.deltas.Why.TheVariants as whys
@@ -44,14 +44,8 @@ taken_redone r p (Take queue ident persistent ∷ items) =
 
 -- ---- each ident is at most once in a unit, so that it is among those added where its message lasts
 
-turned : (a b : Ident) → same_ident a b ≡ true → same_ident b a ≡ true
-turned a b e = grind (arith, nat_tests, e)
-
-same_self : (i : Ident) → same_ident i i ≡ true
-same_self i = grind (arith, nat_tests)
-
 counted : (i j : Ident) (b : Bool) → same_ident i j ≡ b → b ≡ true → one_if (same_ident j i) ≡ 1
-counted i j true e t = ap one_if (turned i j e)
+counted i j true e t = ap one_if (same_turned j i ∙ e)
 counted i j false e t = absurd cc
 
 added_counted : (i : Ident) (items : List Item) → is_in i (adds_of items) ≡ true → 0 < times_in_unit i items

@@ -19,7 +19,7 @@ use Rattle.mq_spec_manager.specs.Stops.{lasts, redone_delta}
 use Rattle.mq_spec_manager.specs.Agents.{harden_part, settle_did}
 use Rattle.mq_core.specs.Views.{PartsValue, frozen_of, noted_batch}
 use Rattle.mq_core.specs.Writes.{settled_part}
-use Rattle.mq_unit.specs.Told.{Telling}
+use Rattle.mq_core.specs.from_unit.Told.{Telling}
 use Rattle.mq_redo.specs.Redone.{redone_part, only_if, removed_of, settled_of}
 use Rattle.mq_redo.proofs.UnitLaws.{only}
 

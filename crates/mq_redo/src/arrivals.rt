@@ -7,13 +7,14 @@ ghost use Rattle.mq_core.specs.Views.{plain_of};
 ghost use Rattle.mq_core.specs.Writes.{arrival_adds};
 ghost use Rattle.mq_redo.specs.Redone.{adds_ident, is_in, dropped_of, arrived_of};
 
-use crate::telling::{is_persistent, tell_if, tell_removed};
+use crate::telling::{tell_if, tell_removed};
 use mq_base::QName;
 use mq_calls::{Did, Why};
+use mq_core::below::Effects;
 use mq_core::{Arrival, Parts};
 use mq_disk::Disk;
 use mq_message::{Ident, Message};
-use mq_unit::Effects;
+use mq_queue::is_persistent;
 
 fn adds_ident(arrival: &Arrival, ident: &Ident) -> bool
     ensures { result ≡ adds_ident ident.now arrival.now }

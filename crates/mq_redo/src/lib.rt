@@ -2,6 +2,7 @@
 #![tactic(auto)]
 
 mod arrivals;
+pub mod below;
 mod telling;
 mod writes;
 

@@ -1,23 +1,17 @@
 //! What lasts of one thing after another, told into room that was taken before.
 ghost use Rattle.std.specs.Prelude.{◌≡◌, ◌+◌, ◌<◌, ◌≤◌, ◌++◌, length};
 ghost use Rattle.std.specs.List.{flat_map};
-ghost use Rattle.mq_calls.specs.Reads.{is_persistent, stands};
+ghost use Rattle.mq_calls.specs.Reads.{stands};
 ghost use Rattle.mq_core.specs.Views.{plain_of};
 ghost use Rattle.mq_redo.specs.Redone.{only_if, removed_of, settled_of, taken_of, placed_of};
 
 use mq_base::QName;
 use mq_calls::{Did, Item, Remove, Why};
 use mq_core::Parts;
+use mq_core::below::Effects;
 use mq_disk::Disk;
-use mq_message::{Ident, Message};
-use mq_unit::Effects;
-
-/// Whether a message is persistent.
-pub(crate) fn is_persistent(message: &Message) -> bool
-    ensures { result ≡ is_persistent message.now }
-{
-    message.md.persistence == 1
-}
+use mq_message::Ident;
+use mq_queue::is_persistent;
 
 /// Whether a row of that ident stands anywhere. It looks at one queue alone.
 #[tactic(auto, using(crate::proofs::StandLaws::stands_home))]

@@ -10,18 +10,15 @@ ghost use Rattle.mq_core.specs.Writes.{all_landed, now_part, gone_part, settled_
 ghost use Rattle.mq_redo.specs.Redone.{redone_of, redone_part, taken_of, placed_of};
 
 use crate::arrivals::tell_all_arrived;
-use crate::telling::{
-    is_persistent, tell_all_placed, tell_all_removed, tell_all_settled, tell_all_taken,
-};
+use crate::telling::{tell_all_placed, tell_all_removed, tell_all_settled, tell_all_taken};
 use mq_base::{ChName, NoMemory, QName};
 use mq_calls::{Did, Note, Remove, Why};
+use mq_core::below::{Effects, Seat, batch_of};
 use mq_core::{Arrival, Mode, Parts, StoppedWrite};
 use mq_disk::Disk;
-use mq_handles::Seat;
 use mq_message::{Dest, Ident, Message};
-use mq_sides::batch_of;
+use mq_queue::is_persistent;
 use mq_sync::Unit;
-use mq_unit::Effects;
 
 fn tell_one(effects: &mut Effects, did: Did) -> Result<(), NoMemory>
     requires none { effects.old.dids ≡ [] }

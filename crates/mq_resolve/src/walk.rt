@@ -8,8 +8,8 @@ ghost use Rattle.mq_resolve.specs.Resolved.{is_blank, is_here, here, via, transm
 use crate::path::Path;
 use crate::route::{PathStep, Route, RouteEnd};
 use crate::way::{Way, transmission};
-use mq_base::QName;
 use mq_codes::Reason;
+use mq_objects::below::QName;
 use mq_objects::{AliasQueue, Defs, Object, RemoteQueue};
 
 /// The blank name and the own name stand for this manager.

@@ -3,8 +3,8 @@ ghost use Rattle.std.specs.Prelude.{◌≡◌, ℕ, List, [], false};
 ghost use Rattle.mq_resolve.specs.Resolved.{transmission, default_table, is_transmission_queue, is_blank};
 ghost use Rattle.mq_objects.specs.Names.{queue_of};
 
-use mq_base::QName;
 use mq_codes::Reason;
+use mq_objects::below::QName;
 use mq_objects::{Defs, LocalQueue, Object, Usage};
 
 /// A transmission queue, and whether the manager's DEFXMITQ gave it.

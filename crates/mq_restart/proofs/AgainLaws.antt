@@ -15,9 +15,9 @@ use Rattle.mq_log.specs.Force.{Stops}
 use Rattle.mq_record.specs.Records.{record_bytes, IsRecord}
 use Rattle.mq_spec_manager.specs.Stops.{started_record}
 use Rattle.mq_rebuild.specs.declared.building.Built.{Built}
-use Rattle.mq_core.specs.Views.{PartsValue}
+use Rattle.mq_redo.specs.from_core.Views.{PartsValue}
 use Rattle.mq_restart.specs.declared.reading.Unraised.{Unraised}
-use Rattle.mq_core.specs.Ties.{ends_need}
+use Rattle.mq_redo.specs.from_core.Ties.{ends_need}
 use Rattle.mq_restart.specs.Begun.{begun_ends, IsFresh, IsStarted}
 use Rattle.mq_restart.specs.Raised.{given_of, raised_parts, start_fault, stop_fault, with_log, HasRead, IsHalted, IsRaised, Halted, IsUnraised, Fell, Unopened}
 use Rattle.mq_restart.proofs.BeginLaws.{has_started}

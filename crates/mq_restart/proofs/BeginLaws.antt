@@ -31,9 +31,9 @@ use Rattle.mq_recover.specs.declared.recovery.RecoverFault.{RecoverFault}
 use Rattle.mq_recover.specs.declared.recovery.RecoverFault.TheVariants.{BadRecord, NoMemory}
 use Rattle.mq_rebuild.specs.declared.building.Built.{Built}
 use Rattle.mq_rebuild.specs.Rebuilt.{IsBuilt}
-use Rattle.mq_core.specs.Ties.{Tied, ends_need}
-use Rattle.mq_core.specs.Views.{plain_of}
-use Rattle.mq_core.specs.Values.{CoreValue, LogBodies, bodies_in}
+use Rattle.mq_redo.specs.from_core.Ties.{Tied, ends_need}
+use Rattle.mq_redo.specs.from_core.Views.{plain_of}
+use Rattle.mq_redo.specs.from_core.Values.{CoreValue, LogBodies, bodies_in}
 use Rattle.mq_restart.specs.Begun.{given_by, begun_ends, begun_parts, begun_core, recovered_fault, IsFresh, HasOpened, IsStarted, BeginsFrom, IsReadFrom, IsUnread, HasBegun, HasNotBegun}
 use Rattle.mq_restart.proofs.LowLaws.{image_low, image_under}
 use Rattle.mq_restart.proofs.SeenLaws.{begun_seen}

@@ -8,7 +8,7 @@ use Rattle.mq_calls.specs.State.{Plain, Running}
 use Rattle.mq_calls.specs.State.Running.{Up, Down}
 use Rattle.mq_calls.specs.Words.{is_up}
 use Rattle.mq_spec_manager.specs.Stops.{restart_at}
-use Rattle.mq_core.specs.Values.{CoreValue, LogBodies}
+use Rattle.mq_redo.specs.from_core.Values.{CoreValue, LogBodies}
 use Rattle.mq_restart.specs.declared.reading.LogRead.{LogRead}
 use Rattle.mq_restart.specs.declared.reading.Unreturned.{Unreturned}
 use Rattle.mq_restart.specs.Stands.{LogStands}

@@ -17,7 +17,7 @@ use Rattle.mq_spec_manager.specs.Stops.{CanReturn}
 use Rattle.mq_spec_log.specs.Applies.Start.{Later}
 use Rattle.mq_spec_log.specs.Bodies.{image, empty_image}
 use Rattle.mq_recover.specs.declared.recovery.RecoverFault.TheVariants.{BadRecord, NoMemory}
-use Rattle.mq_core.specs.Views.{PartsValue}
+use Rattle.mq_redo.specs.from_core.Views.{PartsValue}
 use Rattle.mq_restart.specs.declared.reading.Unraised.{Unraised}
 use Rattle.mq_restart.specs.Raised.{given_of, with_log, HasHalted, Fell, start_fault, stop_fault, fails_as}
 use Rattle.mq_restart.specs.Raised.Fell.{Unopened, Unread, Unstarted}
@@ -51,7 +51,7 @@ halted_within noted starts armed mid left n stops.Disk low few a b ends =
     (λ z. let more = b z in let there : 0 < mid = omega (arith, a, more) in let some = ends.1 there in omega (arith, a, more, c, some, low))
     (λ z. omega (arith, a, high, z, few))
 
-halted_any : (noted : Option Noted) (starts armed mid left : ℕ) (found : Found) (by : Stop) → EndsByOneOrThree {T = Found} armed (Ok found) mid → Stops mid (Err by) left → CanReturn (Fails (stop_fault by) true left) noted starts armed
+pub halted_any : (noted : Option Noted) (starts armed mid left : ℕ) (found : Found) (by : Stop) → EndsByOneOrThree {T = Found} armed (Ok found) mid → Stops mid (Err by) left → CanReturn (Fails (stop_fault by) true left) noted starts armed
 halted_any noted starts armed mid left found by (inl e) ends = halted_within noted starts armed mid left 1 by (omega arith) (omega arith) e.0 e.1 ends
 halted_any noted starts armed mid left found by (inr e) ends = halted_within noted starts armed mid left 3 by (omega arith) (omega arith) e.0 e.1 ends
 

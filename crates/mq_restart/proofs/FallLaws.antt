@@ -29,8 +29,8 @@ use Rattle.mq_law_image.specs.Tells.{TellsDown}
 use Rattle.mq_law_image.proofs.Telling.{begun_restarted, start_told}
 use Rattle.mq_recover.specs.declared.recovery.RecoverFault.TheVariants.{BadRecord, NoMemory}
 use Rattle.mq_rebuild.specs.declared.building.Built.{Built}
-use Rattle.mq_core.specs.declared.parts.ReadLog.{ReadLog}
-use Rattle.mq_core.specs.Views.{PartsValue, plain_of}
+use Rattle.mq_redo.specs.from_core.{ReadLog}
+use Rattle.mq_redo.specs.from_core.Views.{PartsValue, plain_of}
 use Rattle.mq_restart.specs.Begun.{given_by, IsReadFrom, IsUnread}
 use Rattle.mq_restart.specs.Tells.{Stood, LogStood, StoodBy, kept_of}
 use Rattle.mq_restart.specs.declared.reading.Unraised.{Unraised}

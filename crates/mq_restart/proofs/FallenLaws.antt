@@ -11,13 +11,12 @@ use Rattle.mq_calls.specs.State.{Plain, Noted, Running}
 use Rattle.mq_calls.specs.State.Running.{Down}
 use Rattle.mq_calls.specs.Words.{is_up}
 use Rattle.mq_spec_manager.specs.Stops.{failed}
-use Rattle.mq_core.specs.declared.parts.ReadLog.{ReadLog}
-use Rattle.mq_core.specs.declared.parts.Mode.{Mode}
-use Rattle.mq_core.specs.declared.parts.Mode.TheVariants as modes
-use Rattle.mq_core.specs.declared.parts.StoppedWrite.{StoppedWrite}
-use Rattle.mq_core.specs.Ties.{Tied, mode_is_up}
-use Rattle.mq_core.specs.Views.{PartsValue, plain_of, frozen_of, noted, running_of, length_of, read_length, channels_of}
-use Rattle.mq_place.specs.States.{queues_of}
+use Rattle.mq_redo.specs.from_core.{Mode, ReadLog, StoppedWrite}
+use Rattle.mq_redo.specs.from_core.ModeVariants as modes
+use Rattle.mq_redo.specs.from_core.Ties.{Tied, mode_is_up}
+use Rattle.mq_redo.specs.from_core.Views.{PartsValue, plain_of, frozen_of, noted, running_of, length_of, read_length, channels_of}
+use Rattle.mq_redo.proofs.from_core.ForceLaws.{tied_where}
+use Rattle.mq_rebuild.specs.from_place.States.{queues_of}
 use Rattle.mq_rebuild.specs.declared.building.Built.{Built}
 use Rattle.mq_restart.specs.declared.reading.Unraised.{Unraised}
 use Rattle.mq_restart.specs.Raised.{with_log, given_of, HasHalted, Fell, starts_after, stop_fault}
@@ -47,16 +46,9 @@ absurd_up true e f = absurd cc
 absurd_up false e f = absurd cc
 
 pub tied_log : (x : PartsValue) (l : LogState) (m : Mode) → mode_is_up m ≡ false → l.max ≡ x.log.max → Tied x → Tied (record x { mode = m; log = l })
-tied_log x l m down max t = record {
-  up = λ u. absurd (absurd_up (mode_is_up m) down u);
-  reserved = λ u. absurd (absurd_up (mode_is_up m) down u);
-  within = λ u. absurd (absurd_up (mode_is_up m) down u);
-  queues = record { lanes = t.queues.lanes; pending = t.queues.pending };
-  idents = record { once = t.idents.once; given = t.idents.given };
-  forced = t.forced;
-  max = subst (λ (n : ℕ). n < 2 ^ 32) (sym max) t.max;
-  moment = t.moment;
-}
+tied_log x l m down max t =
+    let none = λ (u : mode_is_up m ≡ true). absurd_up (mode_is_up m) down u in
+    tied_where [] [] x.ends l x.body m x (λ u. absurd (none u)) (λ u. absurd (none u)) (λ u. absurd (none u)) (subst (λ (n : ℕ). n < 2 ^ 32) (sym max) t.max) t
 
 halted_max : (b : Built) (x y : PartsValue) (log : LogState) (e : Unraised) → log.max ≡ x.log.max → HasHalted (given_of (with_log log x)) b log e y.log → y.log.max ≡ x.log.max
 halted_max b x y log e max (Wanting fault out same) = ap (λ (l : LogState). l.max) same ∙ max

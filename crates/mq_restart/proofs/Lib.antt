@@ -18,3 +18,6 @@ pub mod RestartLaws
 pub mod RaiseLaws
 pub mod FallLaws
 pub mod AgainLaws
+pub mod from_law_image
+pub mod from_record
+pub mod from_spec_log

@@ -16,6 +16,7 @@ use Rattle.mq_spec_log.specs.Applies.Start.{First, Later}
 use Rattle.mq_spec_log.specs.Shelves.{added, removed, added_all, removed_all}
 use Rattle.mq_spec_log.specs.Records.{doing, settled_rows}
 use Rattle.mq_spec_log.specs.Bodies.{record_of, behind, or_place, image_from, begins, image, empty_image}
+use Rattle.mq_law_image.proofs.Members.{both}
 
 abbrev bound : Start → ℕ
 bound First = 2 ^ 60
@@ -38,11 +39,6 @@ settled_same false channel i = refl
 
 low_same : (a b most : ℕ) → a ≡ b → b < most → a < most
 low_same a b most e lt = omega (arith, e, lt)
-
-both : (a b : Bool) → (a && b) ≡ true → (a ≡ true) × (b ≡ true)
-both true true e = (refl, refl)
-both true false e = absurd cc
-both false b e = absurd cc
 
 less : (a b most : ℕ) → a < most → b < most → max a b < most
 less a b most lt k = omega (arith, lt, k)

@@ -12,9 +12,9 @@ use Rattle.mq_calls.specs.State.{Plain, Noted, Running}
 use Rattle.mq_calls.specs.State.Running.{Up, Down}
 use Rattle.mq_calls.specs.Images.{begun, raised}
 use Rattle.mq_spec_manager.specs.Stops.{restart_at, redone_delta, started_need, calls_of_restart, Spent}
-use Rattle.mq_core.specs.Ties.{Tied}
-use Rattle.mq_core.specs.Values.{CoreValue, bodies_in}
-use Rattle.mq_core.specs.Views.{PartsValue, plain_of, frozen_of, noted}
+use Rattle.mq_redo.specs.from_core.Ties.{Tied}
+use Rattle.mq_redo.specs.from_core.Values.{CoreValue, bodies_in}
+use Rattle.mq_redo.specs.from_core.Views.{PartsValue, plain_of, frozen_of, noted}
 use Rattle.mq_restart.specs.Begun.{given_by}
 use Rattle.mq_restart.specs.Raised.{Raises, ComesUp, given_of}
 use Rattle.mq_restart.proofs.RaiseLaws.{comes_up, most_kept}
@@ -61,7 +61,7 @@ came_own tells kept n starts x y new is down told c = record {
 
 -- ---- from other bytes
 
-three : (armed mid left n : ℕ) → 1 ≤ n → n ≤ 3 → mid ≡ armed - n → (0 < armed → n < armed) → left ≡ mid - 4 → (0 < mid → 4 < mid) → Spent calls_of_restart 7 armed left
+pub three : (armed mid left n : ℕ) → 1 ≤ n → n ≤ 3 → mid ≡ armed - n → (0 < armed → n < armed) → left ≡ mid - 4 → (0 < mid → 4 < mid) → Spent calls_of_restart 7 armed left
 three zero mid left n low high a b c d = inl (refl, omega (arith, a, c))
 three (suc m) mid left n low high a b c d =
     let lt : n < suc m = b (omega arith) in

@@ -15,9 +15,10 @@ use Rattle.mq_spec_log.specs.Bodies.{image}
 use Rattle.mq_spec_manager.specs.Stops.{started_need, started_record, redone_if}
 use Rattle.mq_law_image.specs.Tells.{later_by}
 use Rattle.mq_rebuild.specs.declared.building.Built.{Built}
-use Rattle.mq_core.specs.declared.parts.ReadLog.{ReadLog}
-use Rattle.mq_core.specs.Views.{PartsValue, plain_of}
-use Rattle.mq_core.specs.Ties.{Tied}
+use Rattle.mq_redo.specs.from_core.{ReadLog}
+use Rattle.mq_redo.specs.from_core.Views.{PartsValue, plain_of}
+use Rattle.mq_redo.specs.from_core.Ties.{Tied}
+use Rattle.mq_redo.proofs.from_core.ForceLaws.{tied_where}
 use Rattle.mq_restart.specs.Begun.{given_by, begun_parts, IsFresh, IsReadFrom}
 use Rattle.mq_restart.specs.Tells.{Stood, LogStood, StoodBy, HasRestarted, kept_of}
 use Rattle.mq_restart.specs.Raised.{given_of, Raises, ComesUp}
@@ -55,16 +56,8 @@ has_restarted tells x y found r some =
 
 -- its own room for a record changes no tie
 pub tied_body : (x : PartsValue) (b : Buffered) → x.log.reserved ≡ 0 → Tied x → Tied (record x { body = b })
-tied_body x b none t = record {
-  up = λ u. let w = t.up u in record { live = w.live; settled = w.settled; ends = w.ends; room = w.room; body = omega (arith, none) };
-  reserved = t.reserved;
-  within = t.within;
-  queues = record { lanes = t.queues.lanes; pending = t.queues.pending };
-  idents = record { once = t.idents.once; given = t.idents.given };
-  forced = t.forced;
-  max = t.max;
-  moment = t.moment;
-}
+tied_body x b none t =
+    tied_where [] [] x.ends x.log b x.mode x (λ u. let w = t.up u in record { live = w.live; settled = w.settled; ends = w.ends; room = w.room; body = omega (arith, none) }) t.reserved t.within t.max t
 
 -- the incarnation that was read
 abbrev or_image : Image → Result Image ℕ → Image

@@ -11,12 +11,12 @@ use Rattle.mq_calls.specs.Images.{begun, raised}
 use Rattle.mq_objects.specs.Names.{local_of}
 use Rattle.mq_spec_manager.specs.Stops.{redone_if, restarted, grown, started_need}
 use Rattle.mq_spec_manager.specs.Words.{last_moment}
-use Rattle.mq_law_manager.proofs.Untouched.{changes_untouched}
+use Rattle.mq_law_image.proofs.from_law_manager.Untouched.{changes_untouched}
 use Rattle.mq_spec_log.specs.Applies.Start.{Later}
 use Rattle.mq_law_image.proofs.Telling.{redone_given, begun_restarted}
 use Rattle.mq_rebuild.specs.declared.building.Built.{Built}
-use Rattle.mq_core.specs.Ties.{Tied}
-use Rattle.mq_core.specs.Views.{plain_of}
+use Rattle.mq_redo.specs.from_core.Ties.{Tied}
+use Rattle.mq_redo.specs.from_core.Views.{plain_of}
 use Rattle.mq_restart.specs.Begun.{given_by, begun_parts, IsReadFrom}
 use Rattle.mq_restart.specs.Tells.{Stood, HasRestarted}
 use Rattle.mq_restart.proofs.SeenLaws.{begun_seen}

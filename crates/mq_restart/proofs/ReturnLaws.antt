@@ -6,9 +6,9 @@ use Rattle.mq_calls.specs.declared.deltas.Did.{Did}
 use Rattle.mq_log.specs.declared.images.Found.{Found}
 use Rattle.mq_calls.specs.State.{Running}
 use Rattle.mq_calls.specs.Words.{is_up}
-use Rattle.mq_core.specs.Ties.{Tied}
-use Rattle.mq_core.specs.Values.{CoreValue, bodies_in}
-use Rattle.mq_core.specs.Views.{PartsValue, plain_of, frozen_of}
+use Rattle.mq_redo.specs.from_core.Ties.{Tied}
+use Rattle.mq_redo.specs.from_core.Values.{CoreValue, bodies_in}
+use Rattle.mq_redo.specs.from_core.Views.{PartsValue, plain_of, frozen_of}
 use Rattle.mq_restart.specs.declared.reading.Unraised.{Unraised}
 use Rattle.mq_restart.specs.Raised.{Raises, Fell}
 use Rattle.mq_redo.specs.Redone.{redone_of}

@@ -17,9 +17,9 @@ use Rattle.mq_spec_log.proofs.BodyLaws.{record_back}
 use Rattle.mq_law_image.specs.Tells.{Tells}
 use Rattle.mq_law_image.proofs.Logged.{image_text}
 use Rattle.mq_law_image.proofs.Starting.{first_told}
-use Rattle.mq_core.specs.Ties.{Tied}
-use Rattle.mq_core.specs.Values.{bodies_in}
-use Rattle.mq_core.specs.Views.{PartsValue, plain_of}
+use Rattle.mq_redo.specs.from_core.Ties.{Tied}
+use Rattle.mq_redo.specs.from_core.Values.{bodies_in}
+use Rattle.mq_redo.specs.from_core.Views.{PartsValue, plain_of}
 use Rattle.mq_restart.specs.Begun.{given_by, begun_parts, IsFresh}
 use Rattle.mq_restart.specs.Raised.{Raises, given_of}
 use Rattle.mq_restart.proofs.RaiseLaws.{most_kept, tied_body}

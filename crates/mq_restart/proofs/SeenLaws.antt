@@ -10,10 +10,10 @@ use Rattle.mq_calls.specs.Images.{queue_on, begun, raised}
 use Rattle.mq_calls.specs.declared.image.Image.{Image}
 use Rattle.mq_calls.specs.declared.image.Shelf.{Shelf}
 use Rattle.mq_log.specs.State.{LogState, log_length}
-use Rattle.mq_place.specs.States.{QueueState, queues_of}
+use Rattle.mq_rebuild.specs.from_place.States.{QueueState, queues_of}
 use Rattle.mq_rebuild.specs.declared.building.Built.{Built}
 use Rattle.mq_rebuild.specs.Rebuilt.{state_on, IsBuilt}
-use Rattle.mq_core.specs.Views.{plain_of}
+use Rattle.mq_redo.specs.from_core.Views.{plain_of}
 use Rattle.mq_restart.specs.Begun.{given_by, begun_parts}
 
 pub queues_seen : (d : Definitions) (shelves : List Shelf) → queues_of (map (state_on d) shelves) ≡ map queue_on shelves

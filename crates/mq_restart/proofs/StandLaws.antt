@@ -12,10 +12,10 @@ use Rattle.mq_spec_manager.specs.Stops.{advance_clock, cut, stop, stop_at, stop_
 use Rattle.mq_spec_log.specs.Applies.{is_in_bounds}
 use Rattle.mq_spec_log.specs.Applies.Start.{Later}
 use Rattle.mq_spec_log.specs.Bodies.{record_of}
-use Rattle.mq_law_log.specs.Restarts.{IsGivenIn, IsHarmless}
+use Rattle.mq_law_image.specs.from_law_log.Restarts.{IsGivenIn, IsHarmless}
 use Rattle.mq_law_image.specs.Tells.{TellsDown}
 use Rattle.mq_law_image.proofs.Telling.{lost_told, found_told, stop_told}
-use Rattle.mq_core.specs.Values.{LogBodies}
+use Rattle.mq_redo.specs.from_core.Values.{LogBodies}
 use Rattle.mq_restart.specs.Tells.{Stood, StoodWith}
 use Rattle.mq_restart.proofs.RestartLaws.{logs_kept}
 use Rattle.mq_restart.specs.declared.reading.LogRead.{LogRead}

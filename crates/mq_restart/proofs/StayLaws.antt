@@ -18,9 +18,9 @@ use Rattle.mq_calls.specs.State.Running.{Down}
 use Rattle.mq_calls.specs.Steps.{stands_in}
 use Rattle.mq_spec_manager.specs.Stops.{redone_if, restart_at, started_need, CanReturn, CanReturnTold}
 use Rattle.mq_recover.specs.declared.recovery.RecoverFault.TheVariants.{BadRecord, NoMemory}
-use Rattle.mq_core.specs.declared.parts.ReadLog.{ReadLog}
-use Rattle.mq_core.specs.Values.{CoreValue, LogBodies, bodies_in}
-use Rattle.mq_core.specs.Views.{PartsValue, plain_of, frozen_of, noted}
+use Rattle.mq_redo.specs.from_core.{ReadLog}
+use Rattle.mq_redo.specs.from_core.Values.{CoreValue, LogBodies, bodies_in}
+use Rattle.mq_redo.specs.from_core.Views.{PartsValue, plain_of, frozen_of, noted}
 use Rattle.mq_restart.specs.declared.reading.Unraised.{Unraised}
 use Rattle.mq_restart.specs.Tells.{LogStood, Stood, StoodWith, kept_of}
 use Rattle.mq_restart.specs.Raised.{given_of, with_log, HasHalted, Fell, starts_after, read_after, start_fault, stop_fault, fails_as}

@@ -9,6 +9,7 @@ use Rattle.mq_message.specs.declared.message.Ident.{Ident}
 use Rattle.mq_queue.specs.declared.row.Row.{Row}
 use Rattle.mq_queue.specs.Rows.{same_ident, has_ident}
 use Rattle.mq_queue.specs.Queues.{Lacks}
+use Rattle.mq_queue.proofs.Edits.{same_turned}
 use Rattle.mq_objects.specs.declared.object.LocalQueue.{LocalQueue}
 use Rattle.mq_objects.specs.declared.object.Object.{Object}
 use Rattle.mq_objects.specs.declared.object.Object.TheVariants as objects
@@ -24,14 +25,14 @@ use Rattle.mq_calls.specs.Changes.{comes_before}
 use Rattle.mq_calls.specs.Recovery.{IsImage, AreApart, AreKnown, IsKnown, listed}
 use Rattle.mq_spec_manager.specs.Words.{last_moment}
 use Rattle.mq_log.specs.State.{LogState}
-use Rattle.mq_place.specs.States.{QueueState, queues_of, state_in}
-use Rattle.mq_law_manager.proofs.Beginning.{pairs_chain}
-use Rattle.mq_law_manager.proofs.Lists.{ident_yes, ident_self}
-use Rattle.mq_law_manager.proofs.Named.{name_is}
+use Rattle.mq_rebuild.specs.from_place.States.{QueueState, queues_of, state_in}
+use Rattle.mq_law_image.proofs.from_law_manager.Beginning.{pairs_chain}
+use Rattle.mq_law_image.proofs.from_law_manager.Lists.{ident_yes}
+use Rattle.mq_law_image.proofs.from_law_manager.Named.{name_is}
 use Rattle.mq_law_image.proofs.Naming.{shelf_names, local_names, is_local_at, name_listed, local_found}
-use Rattle.mq_sides.specs.Places.{AreByName}
-use Rattle.mq_sides.specs.Bonds.{has_seat}
-use Rattle.mq_core.specs.Ties.{EndsReady, Tied, ends_need, state_lanes, local_lanes, pending_at, times_in_rows, times_in_queues, one_if}
+use Rattle.mq_rebuild.specs.from_sides.Places.{AreByName}
+use Rattle.mq_rebuild.specs.from_sides.Bonds.{has_seat}
+use Rattle.mq_redo.specs.from_core.Ties.{EndsReady, Tied, ends_need, state_lanes, local_lanes, pending_at, times_in_rows, times_in_queues, one_if}
 use Rattle.mq_rebuild.specs.declared.building.Built.{Built}
 use Rattle.mq_rebuild.specs.Rebuilt.{is_laned, state_on, IsBuilt}
 use Rattle.mq_restart.specs.Begun.{begun_ends, begun_parts, IsFresh}
@@ -53,16 +54,9 @@ times_none i (row ∷ rows) h = let e = ap one_if h.0 in let n = times_none i ro
 abbrev IsOther : Row → Row → Type 0
 IsOther x y = same_ident x.message.ident y.message.ident ≡ false
 
-turned : (a b : Ident) → same_ident a b ≡ false → same_ident b a ≡ false
-turned a b e = by (same_ident b a) refl
-  where
-    by : (t : Bool) → same_ident b a ≡ t → t ≡ false
-    by true t = absurd (true_false (sym (ap (λ (x : Ident). same_ident a x) (ident_yes b a t) ∙ ident_self a) ∙ e))
-    by false t = refl
-
 others_lack : (i : Ident) (row : Row) → row.message.ident ≡ i → (rows : List Row) → AllByRecursion (IsOther row) rows → Lacks i rows
 others_lack i row own [] h = tt
-others_lack i row own (y ∷ ys) h = (turned i y.message.ident (ap (λ (x : Ident). same_ident x y.message.ident) (sym own) ∙ h.0), others_lack i row own ys h.1)
+others_lack i row own (y ∷ ys) h = (same_turned y.message.ident i ∙ ap (λ (x : Ident). same_ident x y.message.ident) (sym own) ∙ h.0, others_lack i row own ys h.1)
 
 abbrev Rows : List Row → Type 0
 Rows [] = Unit {0}

@@ -24,11 +24,11 @@ use Rattle.mq_recover.specs.declared.recovery.RecoverFault.{RecoverFault}
 use Rattle.mq_recover.specs.declared.recovery.RecoverFault.TheVariants.{BadRecord, NoMemory}
 use Rattle.mq_rebuild.specs.declared.building.Built.{Built}
 use Rattle.mq_rebuild.specs.Rebuilt.{IsBuilt}
-use Rattle.mq_core.specs.declared.parts.Mode.TheVariants as modes
-use Rattle.mq_core.specs.Values.{CoreValue, bodies_in}
-use Rattle.mq_core.specs.Views.{PartsValue, plain_of}
-use Rattle.mq_core.specs.Ties.{ends_need}
-use Rattle.mq_core.specs.declared.parts.ChannelEnds.{ChannelEnds}
+use Rattle.mq_redo.specs.from_core.ModeVariants as modes
+use Rattle.mq_redo.specs.from_core.Values.{CoreValue, bodies_in}
+use Rattle.mq_redo.specs.from_core.Views.{PartsValue, plain_of}
+use Rattle.mq_redo.specs.from_core.Ties.{ends_need}
+use Rattle.mq_redo.specs.from_core.{ChannelEnds}
 
 abbrev pub given_by : ℕ → List ℕ → ℕ → Given
 given_by number name max = record { number = number; name = name; log_max = max }

@@ -3,10 +3,9 @@ use Rattle.std.specs.Prelude.{ℕ, Bool, Option, Some, None}
 use Rattle.mq_calls.specs.declared.commands.RestartFault.{RestartFault}
 use Rattle.mq_calls.specs.declared.commands.RestartFault.TheVariants as faults
 use Rattle.mq_log.specs.declared.images.Found.{Found}
-use Rattle.mq_core.specs.declared.parts.ReadLog.{ReadLog}
-use Rattle.mq_core.specs.declared.parts.Mode.{Mode}
-use Rattle.mq_core.specs.declared.parts.Mode.TheVariants as modes
-use Rattle.mq_core.specs.Views.{PartsValue}
+use Rattle.mq_redo.specs.from_core.{Mode, ReadLog}
+use Rattle.mq_redo.specs.from_core.ModeVariants as modes
+use Rattle.mq_redo.specs.from_core.Views.{PartsValue}
 use Rattle.mq_restart.specs.Raised.{starts_after}
 use Rattle.mq_restart.specs.declared.reading.Unraised.{Unraised}
 use Rattle.mq_restart.specs.declared.reading.LogRead.{LogRead}

@@ -4,3 +4,12 @@ pub mod Returned
 pub mod Begun
 pub mod Tells
 pub mod Raised
+pub mod from_core
+pub mod from_law_image
+pub mod from_rebuild
+pub mod from_record
+pub mod from_recover
+pub mod from_redo
+pub mod from_spec_log
+pub mod from_spec_manager
+pub mod from_unit

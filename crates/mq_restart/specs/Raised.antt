@@ -22,10 +22,10 @@ use Rattle.mq_recover.specs.declared.recovery.RecoverFault.TheVariants.{BadRecor
 use Rattle.mq_rebuild.specs.declared.building.Built.{Built}
 use Rattle.mq_calls.specs.declared.choices.Return.{Return}
 use Rattle.mq_calls.specs.declared.choices.Return.TheVariants.{Fails}
-use Rattle.mq_core.specs.declared.parts.ReadLog.{ReadLog}
+use Rattle.mq_redo.specs.from_core.{ReadLog}
 use Rattle.mq_restart.specs.Tells.{kept_of}
-use Rattle.mq_core.specs.Views.{PartsValue, plain_of}
-use Rattle.mq_core.specs.Ties.{Tied}
+use Rattle.mq_redo.specs.from_core.Views.{PartsValue, plain_of}
+use Rattle.mq_redo.specs.from_core.Ties.{Tied}
 use Rattle.mq_restart.specs.declared.reading.Unraised.{Unraised}
 use Rattle.mq_restart.specs.Begun.{given_by, begun_parts, IsReadFrom, IsUnread, IsStarted}
 

@@ -16,7 +16,7 @@ use Rattle.mq_spec_manager.specs.Stops.{restart, started_record, started_need, c
 use Rattle.mq_spec_log.specs.Applies.Start.{Later}
 use Rattle.mq_spec_log.specs.Bodies.{image}
 use Rattle.mq_law_image.specs.Values.{AreObjectTexts}
-use Rattle.mq_core.specs.Values.{CoreValue}
+use Rattle.mq_redo.specs.from_core.Values.{CoreValue}
 use Rattle.mq_restart.specs.declared.reading.LogRead.{LogRead}
 use Rattle.mq_restart.specs.declared.reading.LogRead.TheVariants as reads
 use Rattle.mq_restart.specs.declared.reading.Returned.{Returned}

@@ -7,7 +7,7 @@ use Rattle.mq_calls.specs.State.{Plain, Running}
 use Rattle.mq_calls.specs.State.Running.{Up, Down}
 use Rattle.mq_spec_log.specs.Applies.Start.{Later}
 use Rattle.mq_law_image.specs.Tells.{Tells}
-use Rattle.mq_core.specs.Values.{LogBodies}
+use Rattle.mq_redo.specs.from_core.Values.{LogBodies}
 use Rattle.mq_restart.specs.Tells.{LogStood}
 use Rattle.mq_restart.specs.declared.reading.LogRead.{LogRead}
 use Rattle.mq_restart.specs.declared.reading.LogRead.TheVariants.{Unread, Known, Foreign}

@@ -8,9 +8,9 @@ use Rattle.mq_spec_manager.specs.Stops.{CanBeKept, redone_if, started_need, star
 use Rattle.mq_spec_log.specs.Applies.Start.{Later}
 use Rattle.mq_law_image.specs.Tells.{TellsDown}
 use Rattle.mq_record.specs.Records.{record_bytes}
-use Rattle.mq_core.specs.declared.parts.ReadLog.{ReadLog}
+use Rattle.mq_redo.specs.from_core.{ReadLog}
 use Rattle.mq_rebuild.specs.declared.building.Built.{Built}
-use Rattle.mq_core.specs.Ties.{ends_need}
+use Rattle.mq_redo.specs.from_core.Ties.{ends_need}
 use Rattle.mq_restart.specs.Begun.{IsFresh, begun_ends}
 
 -- Bodies of a manager that is down: what lasts of it, with the noted write or without it, behind the Started records of so

@@ -2,14 +2,14 @@
 ghost use Rattle.std.specs.Prelude.{◌≡◌, ◌+◌, ◌≤◌, sum_by, IfOk, OnOk};
 ghost use Rattle.mq_calls.specs.declared.state.SenderSide.{SenderSide};
 ghost use Rattle.mq_calls.specs.declared.state.ReceiverSide.{ReceiverSide};
-ghost use Rattle.mq_core.specs.Ties.{doubt_bytes, session_bytes, ends_need};
+ghost use Rattle.mq_redo.specs.from_core.Ties.{doubt_bytes, session_bytes, ends_need};
 ghost use Rattle.mq_restart.specs.Begun.{begun_ends};
 
 use mq_base::NoMemory;
 use mq_disk::Disk;
 use mq_log::Log;
 use mq_rebuild::Built;
-use mq_sides::{KeptReceiver, KeptSender};
+use mq_rebuild::below::{KeptReceiver, KeptSender};
 use mq_sync::InDoubt;
 
 /// What the record that settles a unit in doubt takes of the log, in bytes.

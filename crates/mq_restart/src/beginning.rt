@@ -13,12 +13,12 @@ use crate::images::built_of;
 use crate::parts::core_of;
 use mq_base::{NoMemory, QName};
 use mq_calls::BeginFault;
-use mq_core::Core;
 use mq_disk::{Cutter, Disk, Stop};
 use mq_log::{Log, StartFault};
 use mq_rebuild::Built;
 use mq_record::started_bytes;
 use mq_recover::{RecoverFault, Start};
+use mq_redo::below::Core;
 use std::alloc::Global;
 
 /// A manager that was not begun, with its disk for a later start.

@@ -3,6 +3,7 @@
 
 mod aside;
 mod beginning;
+pub mod below;
 mod images;
 mod laws;
 mod parts;

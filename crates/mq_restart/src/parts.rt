@@ -1,16 +1,15 @@
 //! A manager that comes up: its parts, tied to one another.
 ghost use Rattle.std.specs.Prelude.{◌≡◌, ◌+◌, ◌^◌, ◌<◌};
-ghost use Rattle.mq_core.specs.Ties.{Tied};
+ghost use Rattle.mq_redo.specs.from_core.Ties.{Tied};
 ghost use Rattle.mq_restart.specs.Begun.{begun_parts, begun_core};
 
 use mq_base::{Items, QName};
-use mq_core::{ChannelEnds, Core, Mode, Parts};
 use mq_disk::Disk;
-use mq_handles::Live;
 use mq_log::Log;
 use mq_rebuild::Built;
+use mq_rebuild::below::Effects;
 use mq_record::Buffer;
-use mq_unit::Effects;
+use mq_redo::below::{ChannelEnds, Core, Live, Mode, Parts};
 use std::alloc::Global;
 
 /// The parts of a manager that was built, in the next incarnation. It takes no memory.

@@ -5,24 +5,24 @@ use Rattle.std.specs.List.{AllByRecursion}
 use Rattle.std.proofs.lemmas.Bool.Decides.{nat_tests}
 use Rattle.mq_calls.specs.declared.records.LogRecord.{LogRecord}
 use Rattle.mq_frame.specs.Reading.{IsBytes}
-use Rattle.mq_record.specs.Records.{record_bytes, IsRecord}
+use Rattle.mq_restart.specs.from_record.Records.{record_bytes, IsRecord}
 use Rattle.mq_calls.specs.State.{Given, LogState}
 use Rattle.mq_calls.specs.Images.{lasting, begun, raised}
 use Rattle.mq_calls.specs.declared.image.Image.{Image}
 use Rattle.mq_calls.specs.declared.image.Shelf.{Shelf}
 use Rattle.mq_calls.specs.Recovery.{IsImage, AreKnown}
-use Rattle.mq_spec_manager.specs.Stops.{first_start, started_record}
-use Rattle.mq_spec_log.specs.Applies.{applies, is_in_bounds}
-use Rattle.mq_spec_log.specs.Applies.Start.{Later}
-use Rattle.mq_spec_log.specs.Records.{doing}
-use Rattle.mq_spec_log.specs.Bodies.{record_of, behind, or_place, is_started, image, empty_image}
-use Rattle.mq_spec_log.proofs.BodyLaws.{image_more, record_back}
-use Rattle.mq_law_image.specs.SoFar.{IsSoFar}
-use Rattle.mq_law_image.specs.Tells.{Tells}
-use Rattle.mq_law_image.proofs.Records.{record_so_far}
-use Rattle.mq_law_image.proofs.Recovered.{image_so_far, is_image, are_known}
-use Rattle.mq_law_image.proofs.Starting.{first_told}
-use Rattle.mq_law_image.proofs.Telling.{started_applies}
+use Rattle.mq_restart.specs.from_spec_manager.Stops.{first_start, started_record}
+use Rattle.mq_restart.specs.from_spec_log.Applies.{applies, is_in_bounds}
+use Rattle.mq_restart.specs.from_spec_log.Applies.Start.{Later}
+use Rattle.mq_restart.specs.from_spec_log.Records.{doing}
+use Rattle.mq_restart.specs.from_spec_log.Bodies.{record_of, behind, or_place, is_started, image, empty_image}
+use Rattle.mq_restart.proofs.from_spec_log.BodyLaws.{image_more, record_back}
+use Rattle.mq_restart.specs.from_law_image.SoFar.{IsSoFar}
+use Rattle.mq_restart.specs.from_law_image.Tells.{Tells}
+use Rattle.mq_restart.proofs.from_law_image.Records.{record_so_far}
+use Rattle.mq_restart.proofs.from_law_image.Recovered.{image_so_far, is_image, are_known}
+use Rattle.mq_restart.proofs.from_law_image.Starting.{first_told}
+use Rattle.mq_restart.proofs.from_law_image.Telling.{started_applies}
 use Rattle.mq_restarts.specs.Comings.{above}
 
 pub in_bounds : (g : Given) (n : ℕ) → n < 2 ^ 61 → is_in_bounds Later (started_record g n) ≡ true

@@ -11,12 +11,12 @@ use Rattle.mq_calls.specs.State.Running.{Up, Down}
 use Rattle.mq_calls.specs.declared.image.Image.{Image}
 use Rattle.mq_calls.specs.Counts.{starts_of as starts_in}
 use Rattle.mq_calls.specs.Words.{is_up}
-use Rattle.mq_core.specs.Ties.{Tied}
-use Rattle.mq_core.specs.Values.{CoreValue, bodies_in}
-use Rattle.mq_core.specs.Views.{PartsValue, plain_of, frozen_of}
+use Rattle.mq_restart.specs.from_core.Ties.{Tied}
+use Rattle.mq_restart.specs.from_core.Values.{CoreValue, bodies_in}
+use Rattle.mq_restart.specs.from_core.Views.{PartsValue, plain_of, frozen_of}
 use Rattle.mq_restart.specs.declared.reading.Unraised.{Unraised}
 use Rattle.mq_restart.specs.Raised.{Raises}
-use Rattle.mq_redo.specs.Redone.{redone_of}
+use Rattle.mq_restart.specs.from_redo.Redone.{redone_of}
 use Rattle.mq_restart.specs.declared.reading.LogRead.{LogRead}
 use Rattle.mq_restart.specs.declared.reading.LogRead.TheVariants as reads
 use Rattle.mq_restart.specs.declared.reading.Returned.{Returned}

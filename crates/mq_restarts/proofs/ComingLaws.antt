@@ -4,12 +4,12 @@ use Rattle.std.specs.Prelude.{Some}
 use Rattle.mq_calls.specs.declared.commands.RestartFault.TheVariants as faults
 use Rattle.mq_log.specs.declared.images.Found.{Found}
 use Rattle.mq_log.specs.State.{LogState}
-use Rattle.mq_spec_log.specs.Applies.Start.{Later}
+use Rattle.mq_restart.specs.from_spec_log.Applies.Start.{Later}
 use Rattle.mq_calls.specs.declared.image.Image.{Image}
-use Rattle.mq_recover.specs.declared.recovery.RecoverFault.TheVariants as recovers
-use Rattle.mq_rebuild.specs.declared.building.Built.{Built}
-use Rattle.mq_rebuild.specs.Rebuilt.{IsBuilt}
-use Rattle.mq_core.specs.Views.{PartsValue}
+use Rattle.mq_restart.specs.from_recover.RecoverFaultVariants as recovers
+use Rattle.mq_restart.specs.from_rebuild.{Built}
+use Rattle.mq_restart.specs.from_rebuild.Rebuilt.{IsBuilt}
+use Rattle.mq_restart.specs.from_core.Views.{PartsValue}
 use Rattle.mq_restart.specs.declared.reading.Unraised.{Unraised}
 use Rattle.mq_restart.specs.Begun.{given_by, IsReadFrom, IsUnread, IsFresh}
 use Rattle.mq_restart.specs.Raised.{given_of, with_log, HasRead, Raises, Fell}

@@ -1,6 +1,6 @@
 -- The write of the Started record of a manager whose log was changed from outside was stopped.
-use Rattle.std.proofs.Common.{◌≡◌, ℕ, ◌+◌, ◌-◌, ◌<◌, ◌≤◌, Bool, true, [], refl, ap, arith, sym, subst, ◌∙◌, inl, inr}
-use Rattle.std.specs.Prelude.{Option, Ok, Err}
+use Rattle.std.proofs.Common.{◌≡◌, ℕ, ◌+◌, ◌≤◌, Bool, true, [], refl, ap, arith, sym, subst, ◌∙◌}
+use Rattle.std.specs.Prelude.{Option}
 use Rattle.mq_base.specs.Outside.{Rose}
 use Rattle.mq_disk.specs.declared.cutter.Stop.{Stop}
 use Rattle.mq_disk.specs.declared.cutter.Stop.TheVariants as stops
@@ -8,44 +8,25 @@ use Rattle.mq_calls.specs.declared.commands.RestartFault.{RestartFault}
 use Rattle.mq_calls.specs.declared.commands.RestartFault.TheVariants as faults
 use Rattle.mq_calls.specs.declared.choices.Return.TheVariants.{Fails}
 use Rattle.mq_log.specs.declared.images.Found.{Found}
-use Rattle.mq_log.specs.Force.{Stops}
-use Rattle.mq_log.specs.Open.{EndsByOneOrThree}
 use Rattle.mq_log.specs.State.{LogState, log_length}
 use Rattle.mq_calls.specs.State.{Plain, Noted, Running}
 use Rattle.mq_calls.specs.State.Running.{Up, Down}
-use Rattle.mq_spec_manager.specs.Stops.{CanReturn, failed, restart_at}
-use Rattle.mq_core.specs.declared.parts.Mode.{Mode}
-use Rattle.mq_core.specs.Ties.{Tied, mode_is_up}
-use Rattle.mq_core.specs.Values.{CoreValue, LogBodies}
-use Rattle.mq_core.specs.Views.{PartsValue, plain_of, frozen_of, noted, read_length}
+use Rattle.mq_restart.specs.from_spec_manager.Stops.{CanReturn, failed, restart_at}
+use Rattle.mq_restart.specs.from_core.{Mode}
+use Rattle.mq_restart.specs.from_core.Ties.{Tied, mode_is_up}
+use Rattle.mq_restart.specs.from_core.Values.{CoreValue, LogBodies}
+use Rattle.mq_restart.specs.from_core.Views.{PartsValue, plain_of, frozen_of, noted, read_length}
 use Rattle.mq_restart.specs.declared.reading.Unraised.{Unraised}
 use Rattle.mq_restart.specs.Raised.{with_log, starts_after, stop_fault}
-use Rattle.mq_restart.proofs.FallLaws.{spent_of}
+use Rattle.mq_restart.proofs.EndLaws.{halted_any}
 use Rattle.mq_restart.specs.declared.reading.LogRead.{LogRead}
 use Rattle.mq_restart.specs.declared.reading.LogRead.TheVariants as reads
 use Rattle.mq_restart.specs.Stands.{read_found, read_fallen, LogStandsAt, LogStands}
 use Rattle.mq_restart.specs.Falls.{or_read, fallen_mode, read_noted, left_by, fallen}
-use Rattle.mq_restart.specs.Returned.{CanEnd, Stayed, IsNotBad}
+use Rattle.mq_restart.specs.Returned.{CanEnd, Stayed}
 use Rattle.mq_restart.proofs.FallenLaws.{IsDown, tied_log, fallen_plain, down_running, failed_quiet}
 use Rattle.mq_restarts.proofs.ComingLaws.{most_same, FellFar}
 use Rattle.mq_restarts.proofs.FarLaws.{foreign_is}
-
--- ---- the calls of its disk
-
-within : (noted : Option Noted) (starts armed mid left n : ℕ) (by : Stop) → 1 ≤ n → n ≤ 3 → mid ≡ armed - n → (0 < armed → n < armed) → Stops mid (Err by) left → CanReturn (Fails (stop_fault by) true left) noted starts armed
-within noted starts armed mid left n stops.Cut low few a b ends =
-    let c = ends.0 in let d = ends.1 in
-    (ends.2, omega (arith, a, c, low), omega (arith, a, c, d, few))
-within noted starts armed mid left n stops.Disk low few a b ends =
-    let c = ends.0 in let high = ends.2 in
-    spent_of 2 7 armed left (λ z. omega (arith, z, a, c))
-    (λ z. let more = b z in let there : 0 < mid = omega (arith, a, more) in ends.1 there)
-    (λ z. let more = b z in let there : 0 < mid = omega (arith, a, more) in let some = ends.1 there in omega (arith, a, more, c, some, low))
-    (λ z. omega (arith, a, high, z, few))
-
-any : (noted : Option Noted) (starts armed mid left : ℕ) (found : Found) (by : Stop) → EndsByOneOrThree {T = Found} armed (Ok found) mid → Stops mid (Err by) left → CanReturn (Fails (stop_fault by) true left) noted starts armed
-any noted starts armed mid left found by (inl e) ends = within noted starts armed mid left 1 by (omega arith) (omega arith) e.0 e.1 ends
-any noted starts armed mid left found by (inr e) ends = within noted starts armed mid left 3 by (omega arith) (omega arith) e.0 e.1 ends
 
 -- ---- how it is then
 
@@ -56,10 +37,6 @@ left_is stops.Disk armed left = refl
 failed_is : (by : Stop) (left : ℕ) (n : Option Noted) (starts : ℕ) (p : Plain) → (failed (stop_fault by) true left n starts p).next ≡ record p { running = Down n (starts + 1); log = record p.log { armed = left } }
 failed_is stops.Cut left n starts p = refl
 failed_is stops.Disk left n starts p = refl
-
-good : (by : Stop) → IsNotBad (stop_fault by)
-good stops.Cut = tt
-good stops.Disk = tt
 
 rose : (by : Stop) → stop_fault by ≡ faults.Disk → by ≡ stops.Disk
 rose stops.Cut e = absurd cc
@@ -116,7 +93,7 @@ module _ (tells : Type 0) (read : LogRead) (x y : PartsValue) (e : Unraised) (f 
       subst (λ (k : ℕ). CanReturn (Fails e.fault e.in_write k) n d.starts x.log.armed) (sym armed)
       (subst (λ (b : Bool). CanReturn (Fails e.fault b y.log.armed) n d.starts x.log.armed) (sym f.stopped.in_write)
       (subst (λ (g : RestartFault). CanReturn (Fails g true y.log.armed) n d.starts x.log.armed) (sym f.stopped.fault)
-      (any n d.starts x.log.armed f.log.armed y.log.armed f.found f.stopped.by f.read_again.ends f.stopped.halted.ends)))
+      (halted_any n d.starts x.log.armed f.log.armed y.log.armed f.found f.stopped.by f.read_again.ends f.stopped.halted.ends)))
 
   pub stopped_stayed : (d : IsDown x.mode) (z : PartsValue) (new : CoreValue) → (tells → ⊥) → z ≡ fallen read (plain_of x).log.length x.log.armed e y → new.plain ≡ plain_of z → new.delta ≡ [] → new.faults ≡ z.log.faults
       → Stayed tells (plain_of x) x.log.faults (record { fault = e.fault; in_write = e.in_write; left = z.log.armed }) new

@@ -1,5 +1,5 @@
 -- A manager that came up from a log that was changed from outside.
-use Rattle.std.proofs.Common.{◌≡◌, ℕ, zero, suc, ◌+◌, ◌-◌, ◌<◌, ◌≤◌, ◌^◌, Bool, true, false, List, [], ◌∷◌, ◌++◌, length, refl, ap, arith, sym, subst, ◌∙◌, inl, inr}
+use Rattle.std.proofs.Common.{◌≡◌, ℕ, ◌+◌, ◌-◌, ◌<◌, ◌≤◌, ◌^◌, Bool, true, false, List, [], ◌∷◌, ◌++◌, length, refl, ap, arith, sym, subst, ◌∙◌, inl, inr}
 use Rattle.std.specs.Prelude.{Option, Ok, max, nat_lt}
 use Rattle.std.proofs.lemmas.Bool.Decides.{nat_tests}
 use Rattle.std.proofs.lemmas.List.{length-append}
@@ -8,21 +8,21 @@ use Rattle.mq_log.specs.declared.images.Found.TheVariants.{Before, After, Other}
 use Rattle.mq_log.specs.Force.{Stops}
 use Rattle.mq_log.specs.Open.{EndsByOneOrThree}
 use Rattle.mq_log.specs.State.{LogState, log_length}
-use Rattle.mq_history.specs.declared.calls.Chance.TheVariants as chances
-use Rattle.mq_record.specs.Records.{record_bytes, IsRecord}
+use Rattle.mq_spec_node.specs.from_history.ChanceVariants as chances
+use Rattle.mq_restart.specs.from_record.Records.{record_bytes, IsRecord}
 use Rattle.mq_calls.specs.State.{Plain, Noted, Running, LogState as PlainLog}
 use Rattle.mq_calls.specs.State.Running.{Up, Down}
 use Rattle.mq_calls.specs.Images.{begun, raised}
 use Rattle.mq_calls.specs.declared.image.Image.{Image}
 use Rattle.mq_calls.specs.Counts.{starts_of}
-use Rattle.mq_spec_manager.specs.Stops.{started_record, started_need, calls_of_restart, Spent}
-use Rattle.mq_spec_log.specs.Applies.Start.{Later}
-use Rattle.mq_spec_log.specs.Bodies.{image}
-use Rattle.mq_law_image.proofs.Logged.{image_text}
-use Rattle.mq_law_image.specs.Tells.{Tells}
-use Rattle.mq_core.specs.Ties.{Tied}
-use Rattle.mq_core.specs.Values.{CoreValue, LogBodies, bodies_in}
-use Rattle.mq_core.specs.Views.{PartsValue, plain_of, frozen_of, noted}
+use Rattle.mq_restart.specs.from_spec_manager.Stops.{started_record, started_need, calls_of_restart, Spent}
+use Rattle.mq_restart.specs.from_spec_log.Applies.Start.{Later}
+use Rattle.mq_restart.specs.from_spec_log.Bodies.{image}
+use Rattle.mq_restart.proofs.from_law_image.Logged.{image_text}
+use Rattle.mq_restart.specs.from_law_image.Tells.{Tells}
+use Rattle.mq_restart.specs.from_core.Ties.{Tied}
+use Rattle.mq_restart.specs.from_core.Values.{CoreValue, LogBodies, bodies_in}
+use Rattle.mq_restart.specs.from_core.Views.{PartsValue, plain_of, frozen_of, noted}
 use Rattle.mq_restart.specs.Begun.{given_by, begun_parts, IsFresh, IsStarted}
 use Rattle.mq_restart.specs.Raised.{given_of, with_log, HasRead}
 use Rattle.mq_restart.proofs.RaiseLaws.{tied_body}
@@ -35,6 +35,7 @@ use Rattle.mq_restart.specs.Stands.{read_found, read_up, unread_if, LogStandsAt,
 use Rattle.mq_restart.specs.Returned.{IsOfImage}
 use Rattle.mq_restart.proofs.FallenLaws.{IsDown, down_running}
 use Rattle.mq_spec_node.specs.Words.{IsForeign, IsReturn}
+use Rattle.mq_restart.proofs.OwnLaws.{three}
 use Rattle.mq_restarts.specs.Comings.{is_foreign, above, ComesFar, IsFirstAbove}
 use Rattle.mq_restarts.specs.Backs.{IsBackFrom}
 use Rattle.mq_restarts.proofs.ComingLaws.{most_same}
@@ -61,13 +62,6 @@ foreign_is (reads.Known kept) e = absurd cc
 foreign_is reads.Foreign e = refl
 
 -- ---- the calls of its disk
-
-three : (armed mid left n : ℕ) → 1 ≤ n → n ≤ 3 → mid ≡ armed - n → (0 < armed → n < armed) → left ≡ mid - 4 → (0 < mid → 4 < mid) → Spent calls_of_restart 7 armed left
-three zero mid left n low high a b c d = inl (refl, omega (arith, a, c))
-three (suc m) mid left n low high a b c d =
-    let lt : n < suc m = b (omega arith) in
-    let more : 4 < mid = d (omega (arith, a, lt)) in
-    inr (omega (arith, c, more), omega (arith, a, c, more, low), omega (arith, a, c, more, high))
 
 spent_by : (armed mid left : ℕ) (found : Found) → EndsByOneOrThree {T = Found} armed (Ok found) mid → Stops mid (Ok tt) left → Spent calls_of_restart 7 armed left
 spent_by armed mid left found (inl e) s = three armed mid left 1 (omega arith) (omega arith) e.0 e.1 s.0 s.1

@@ -4,3 +4,4 @@ pub mod FarLaws
 pub mod StepLaws
 pub mod EndLaws
 pub mod BackLaws
+pub mod from_restart

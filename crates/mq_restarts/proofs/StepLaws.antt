@@ -8,14 +8,14 @@ use Rattle.mq_log.specs.declared.images.Found.{Found}
 use Rattle.mq_log.specs.State.{LogState, log_length}
 use Rattle.mq_calls.specs.declared.image.Image.{Image}
 use Rattle.mq_calls.specs.Recovery.{IsImage}
-use Rattle.mq_spec_log.specs.Applies.Start.{Later}
-use Rattle.mq_spec_log.specs.Bodies.{image}
-use Rattle.mq_recover.specs.declared.recovery.RecoverFault.{RecoverFault}
-use Rattle.mq_recover.specs.Found.{Recovers}
-use Rattle.mq_rebuild.specs.declared.building.Built.{Built}
-use Rattle.mq_rebuild.specs.Rebuilt.{IsBuilt}
-use Rattle.mq_law_image.proofs.Recovered.{recovered}
-use Rattle.mq_core.specs.Views.{PartsValue}
+use Rattle.mq_restart.specs.from_spec_log.Applies.Start.{Later}
+use Rattle.mq_restart.specs.from_spec_log.Bodies.{image}
+use Rattle.mq_restart.specs.from_recover.{RecoverFault}
+use Rattle.mq_restart.specs.from_recover.Found.{Recovers}
+use Rattle.mq_restart.specs.from_rebuild.{Built}
+use Rattle.mq_restart.specs.from_rebuild.Rebuilt.{IsBuilt}
+use Rattle.mq_restart.proofs.from_law_image.Recovered.{recovered}
+use Rattle.mq_restart.specs.from_core.Views.{PartsValue}
 use Rattle.mq_restart.specs.declared.reading.Unraised.{Unraised}
 use Rattle.mq_restart.specs.Begun.{given_by, IsFresh, IsUnread}
 use Rattle.mq_restart.specs.Raised.{given_of, with_log, read_fault, HasRead, HasHalted, IsRaised, IsUnraised, Fell}

@@ -1,10 +1,10 @@
 -- How a restart ends, with what the history of its node keeps of it.
 use Rattle.std.specs.Prelude.{◌≡◌, ℕ, []}
 use Rattle.mq_calls.specs.declared.choices.Return.TheVariants.{Comes}
-use Rattle.mq_history.specs.declared.calls.Chance.TheVariants as chances
+use Rattle.mq_spec_node.specs.from_history.ChanceVariants as chances
 use Rattle.mq_calls.specs.State.{Plain}
 use Rattle.mq_calls.specs.declared.image.Image.{Image}
-use Rattle.mq_core.specs.Values.{CoreValue}
+use Rattle.mq_restart.specs.from_core.Values.{CoreValue}
 use Rattle.mq_restart.specs.Returned.{Ends, IsOfImage}
 use Rattle.mq_spec_node.specs.Words.{IsReturn, resumed}
 use Rattle.mq_restarts.specs.declared.restarting.Back.{Back}

@@ -10,12 +10,12 @@ use Rattle.mq_calls.specs.State.{Plain}
 use Rattle.mq_calls.specs.Counts.{starts_of}
 use Rattle.mq_calls.specs.declared.image.Image.{Image}
 use Rattle.mq_calls.specs.Recovery.{IsImage, AreKnown}
-use Rattle.mq_spec_log.specs.Applies.Start.{Later}
-use Rattle.mq_spec_log.specs.Bodies.{image}
-use Rattle.mq_recover.specs.declared.recovery.RecoverFault.{RecoverFault}
-use Rattle.mq_rebuild.specs.declared.building.Built.{Built}
-use Rattle.mq_rebuild.specs.Rebuilt.{IsBuilt}
-use Rattle.mq_core.specs.Views.{PartsValue}
+use Rattle.mq_restart.specs.from_spec_log.Applies.Start.{Later}
+use Rattle.mq_restart.specs.from_spec_log.Bodies.{image}
+use Rattle.mq_restart.specs.from_recover.{RecoverFault}
+use Rattle.mq_restart.specs.from_rebuild.{Built}
+use Rattle.mq_restart.specs.from_rebuild.Rebuilt.{IsBuilt}
+use Rattle.mq_restart.specs.from_core.Views.{PartsValue}
 use Rattle.mq_restart.specs.declared.reading.Unraised.{Unraised}
 use Rattle.mq_restart.specs.Begun.{IsUnread}
 use Rattle.mq_restart.specs.Raised.{given_of, with_log, read_fault, stop_fault, HasRead, IsHalted, IsRaised, Fell}

@@ -1,2 +1,3 @@
 pub mod Comings
 pub mod Backs
+pub mod from_restart

@@ -8,10 +8,9 @@ use crate::images::{above, image_of};
 use crate::raising::{reread, start_from};
 use crate::reading::{is_foreign, read_found};
 use mq_calls::{Image, RestartFault};
-use mq_core::Parts;
 use mq_disk::Disk;
 use mq_log::Found;
-use mq_recover::RecoverFault;
+use mq_restart::below::{Parts, RecoverFault};
 use mq_restart::{LogRead, Unraised};
 use mq_told::LogTold;
 

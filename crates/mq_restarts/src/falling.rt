@@ -4,9 +4,9 @@ ghost use Rattle.mq_restart.specs.Falls.{fallen_mode, read_noted, left_by, falle
 
 use crate::reading::{is_kept, read_found};
 use mq_calls::RestartFault;
-use mq_core::{Mode, Parts, ReadLog};
 use mq_disk::Disk;
 use mq_log::Found;
+use mq_restart::below::{Mode, Parts, ReadLog};
 use mq_restart::{LogRead, Unraised};
 
 fn fallen_mode(mode: Mode, read: Option<ReadLog>, in_write: bool) -> Mode

@@ -2,19 +2,18 @@
 ghost use Rattle.std.specs.Prelude.{◌≡◌, MatchResult};
 ghost use Rattle.std.specs.List.{AllByRecursion};
 ghost use Rattle.mq_frame.specs.Reading.{IsBytes};
-ghost use Rattle.mq_spec_log.specs.Applies.Start.{Later};
-ghost use Rattle.mq_spec_log.specs.Bodies.{image};
-ghost use Rattle.mq_recover.specs.Found.{Recovers};
+ghost use Rattle.mq_restart.specs.from_spec_log.Applies.Start.{Later};
+ghost use Rattle.mq_restart.specs.from_spec_log.Bodies.{image};
+ghost use Rattle.mq_restart.specs.from_recover.Found.{Recovers};
 ghost use Rattle.mq_restart.specs.Begun.{given_by, IsUnread};
 ghost use Rattle.mq_restart.specs.Raised.{given_of};
 ghost use Rattle.mq_restarts.specs.Comings.{above, IsToldBy};
 
 use mq_base::QName;
 use mq_calls::Image;
-use mq_core::Parts;
 use mq_disk::Disk;
 use mq_log::Log;
-use mq_recover::RecoverFault;
+use mq_restart::below::{Parts, RecoverFault};
 use mq_told::{LogTold, image_on};
 use std::alloc::Global;
 

@@ -2,6 +2,7 @@
 //! from outside.
 #![tactic(auto)]
 
+pub mod below;
 mod coming;
 mod falling;
 mod images;

@@ -7,12 +7,9 @@ ghost use Rattle.mq_restarts.specs.Comings.{IsReread, Rises, Halts};
 
 use mq_base::{Items, NoMemory};
 use mq_calls::{Image, RestartFault};
-use mq_core::{ChannelEnds, Mode, Parts};
 use mq_disk::{Disk, Stop};
-use mq_handles::Live;
 use mq_log::{Found, StartFault};
-use mq_rebuild::{Built, build};
-use mq_record::started_bytes;
+use mq_restart::below::{Built, ChannelEnds, Live, Mode, Parts, build, started_bytes};
 use mq_restart::{Unraised, make_room};
 
 fn start_fault(fault: StartFault) -> RestartFault

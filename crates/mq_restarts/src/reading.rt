@@ -1,14 +1,14 @@
 //! What restarts have read of a log, and what one leaves that is refused.
 ghost use Rattle.std.specs.Prelude.{◌≡◌, IfSome};
-ghost use Rattle.mq_core.specs.Views.{plain_of};
+ghost use Rattle.mq_restart.specs.from_core.Views.{plain_of};
 ghost use Rattle.mq_restart.specs.Stands.{is_kept, read_found, read_up, read_fallen};
 ghost use Rattle.mq_calls.specs.Counts.{starts_of};
 ghost use Rattle.mq_restarts.specs.Comings.{is_foreign, IsFirstAbove};
 
-use mq_core::{Mode, Parts};
 use mq_disk::Disk;
 use mq_log::Found;
 use mq_restart::LogRead;
+use mq_restart::below::{Mode, Parts};
 
 /// What is known behind one more restart that read the log.
 pub(crate) fn read_found(read: LogRead, found: Found) -> LogRead

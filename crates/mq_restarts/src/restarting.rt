@@ -1,7 +1,7 @@
 //! The call `restart` of a queue manager.
 ghost use Rattle.std.specs.Prelude.{◌≡◌, ◌-◌, [], None, false, if◌then◌else◌, MatchResult};
 ghost use Rattle.mq_calls.specs.Words.{is_up};
-ghost use Rattle.mq_redo.specs.Redone.{redone_of};
+ghost use Rattle.mq_restart.specs.from_redo.Redone.{redone_of};
 ghost use Rattle.mq_restart.specs.Stands.{LogStands};
 ghost use Rattle.mq_restart.specs.Returned.{Stayed, Passes};
 ghost use Rattle.mq_restarts.specs.Comings.{IsFirstAbove};
@@ -13,12 +13,10 @@ use crate::reading::{
     cut_left, first_above, incarnation, is_kept, length_at_stop, read_fallen, read_found, read_up,
 };
 use mq_calls::{Image, RestartFault};
-use mq_core::Core;
 use mq_disk::Disk;
-use mq_redo::tell_redone;
+use mq_restart::below::{Core, Effects, tell_redone};
 use mq_restart::{LogRead, Unreturned};
 use mq_told::LogTold;
-use mq_unit::Effects;
 
 /// How a manager came up.
 #[derive(Drop)]

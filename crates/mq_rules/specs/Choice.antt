@@ -2,9 +2,9 @@
 use Rattle.std.specs.Prelude.{ℕ, ℤ, ◌+◌, ◌^◌, nat_lt, Bool, List, [], drop, position, if◌then◌else◌, Option, Some, None, Result, Ok, Err}
 use Rattle.std.specs.List.{list_all}
 use Rattle.std.specs.Ordering.{int_eq}
-use Rattle.mq_base.specs.declared.fault.NameFault.{NameFault}
-use Rattle.mq_base.specs.Name.{name_of}
-use Rattle.mq_message.specs.declared.message.Md.{Md}
+use Rattle.mq_heads.specs.from_base.{NameFault}
+use Rattle.mq_heads.specs.from_base.Name.{name_of}
+use Rattle.mq_heads.specs.from_message.{Md}
 use Rattle.mq_heads.specs.declared.headers.Dlh.{Dlh}
 use Rattle.mq_rules.specs.declared.rule.TextField.{TextField}
 use Rattle.mq_rules.specs.declared.rule.TextField.TheVariants as texts

@@ -1,6 +1,6 @@
 -- Patterns of texts.
 use Rattle.std.specs.Prelude.{◌≡◌, ◌≤◌, ℕ, ◌==◌, Bool, true, false, ◌&&◌, ◌||◌, List, [], ◌∷◌, length, drop, slice_index_or, if◌then◌else◌}
-pub use Rattle.mq_base.specs.Name.{onto_text, trimmed}
+pub use Rattle.mq_heads.specs.from_base.Name.{onto_text, trimmed}
 
 -- the text itself, or what is left of it behind some of its bytes, passes
 abbrev pub some_rest : (List ℕ → Bool) → List ℕ → Bool

@@ -5,9 +5,8 @@ ghost use Rattle.mq_rules.specs.Choice.{text_field, number_field, holds, matches
 
 use crate::pattern::is_like;
 use crate::rule::{Condition, NumberField, Rule, Table, Target, TextField};
-use mq_base::{QName, trimmed};
 use mq_heads::Dlh;
-use mq_message::Md;
+use mq_heads::below::{Md, QName, trimmed};
 
 fn text_field<'a>(md: &'a Md, dlh: &'a Dlh, field: TextField) -> &'a [u8]
     ensures field { result.now ≡ text_field md.now dlh.now field }

@@ -1,6 +1,6 @@
 //! What a rules table says. Source: IBM MQ, "The dead-letter queue handler rules table".
 
-use mq_base::{Items, QName};
+use mq_heads::below::{Items, QName};
 
 /// A text that a rule tests.
 #[derive(Clone, Copy, PartialEq, Eq)]

@@ -1,13 +1,13 @@
 -- Joined lines one by one: each is of commands or leaves a quote open, and what a text's lines are, both ways.
-use Rattle.std.proofs.Common.{◌≡◌, ◌⊎◌, ℕ, true, List, [], ◌∷◌, ◌++◌, Result, Ok, Err, refl, sym, ap, subst, ◌∙◌, append-nil, inl, inr}
+use Rattle.std.proofs.Common.{◌≡◌, ◌⊎◌, ℕ, List, [], ◌∷◌, ◌++◌, Result, Ok, Err, refl, sym, ap, subst, ◌∙◌, append-nil, inl, inr}
 use Rattle.mq_text.specs.Lines.{lines_of}
 use Rattle.mq_sc_lex.specs.declared.joining.Mark.{Mark}
 use Rattle.mq_sc_lex.specs.declared.joining.Ending.{Ending}
-use Rattle.mq_sc_lex.specs.declared.joining.Ending.TheVariants.{Whole, Plus, Minus}
+use Rattle.mq_sc_lex.specs.declared.joining.Ending.TheVariants.{Whole}
 use Rattle.mq_sc_lex.specs.declared.token.Line.{Line}
 use Rattle.mq_sc_lex.specs.declared.fault.LexFault.{LexFault}
 use Rattle.mq_sc_lex.specs.declared.fault.LexFault.TheVariants.{OpenQuote}
-use Rattle.mq_sc_lex.specs.Joining.{is_open, joined_of}
+use Rattle.mq_sc_lex.specs.Joining.{joined_of}
 use Rattle.mq_sc_lex.specs.Tokens.{commands_of_marks}
 use Rattle.mq_sc_lex.specs.Commands.{then_lines}
 use Rattle.mq_sc_grammar.specs.Written.{AreOfLine, AreOfLines}
@@ -15,6 +15,7 @@ use Rattle.mq_sc_grammar.specs.Texts.{AreLinesOf}
 use Rattle.mq_sc_grammar.specs.TextFaults.{LeavesOpen}
 use Rattle.mq_sc_grammar.proofs.Joins.{done, joined_read, made}
 use Rattle.mq_sc_grammar.proofs.LineReads.{ok_lines, err_lines, lines_read, opens_read, lines_either, OpenLines}
+pub use Rattle.mq_sc_grammar.proofs.Whole.{continued as goes_on}
 
 -- ---- one line
 
@@ -59,8 +60,3 @@ pub record Joins (text : List ℕ) : Type 0 where
 
 pub some_joined : (text : List ℕ) → Joins text
 some_joined text = let m = made (lines_of text) Whole 1 0 in record { last = m.last; joined = m.lines; are = m.are }
-
-pub goes_on : (last : Ending) → (last ≡ Whole → ⊥) → is_open last ≡ true
-goes_on Whole h = absurd (h refl)
-goes_on Plus h = refl
-goes_on Minus h = refl

@@ -8,10 +8,10 @@ use Rattle.mq_base.specs.Outside.{Rose}
 use Rattle.mq_history.specs.declared.history.History.{History}
 use Rattle.mq_spec_network.specs.Story.{Line, entries_at, entries_or, part}
 use Rattle.mq_spec_node.specs.Terms.{Entry}
-use Rattle.mq_events.specs.Disks.{HasRisen, disk_failed, disk_failures}
-use Rattle.mq_begin.specs.Begun.{Held, NotBegan, RefusesAt}
-use Rattle.mq_begin.specs.Begun as begun
-use Rattle.mq_begin.specs.declared.faults.NetFault.TheVariants as faults
+use Rattle.mq_world.specs.from_events.Disks.{HasRisen, disk_failed, disk_failures}
+use Rattle.mq_world.specs.from_begin.Begun.{Held, NotBegan, RefusesAt}
+use Rattle.mq_world.specs.from_begin.Begun as begun
+use Rattle.mq_world.specs.from_begin.NetFaultVariants as faults
 use Rattle.mq_calls.specs.declared.commands.RestartFault.{RestartFault}
 use Rattle.mq_calls.specs.declared.commands.RestartFault.TheVariants as starts
 use Rattle.mq_calls.specs.declared.commands.ScRefusal.{ScRefusal}

@@ -15,9 +15,9 @@ use Rattle.mq_spec_network.specs.Given as givens
 use Rattle.mq_spec_network.specs.Lawful.{marks_at, marks_or}
 use Rattle.mq_spec_network.specs.Story.{entries_at, entries_or}
 use Rattle.mq_nodes.proofs.CarriedLaws.{carried_undone}
-use Rattle.mq_begin.specs.Begun.{AllBegan, BeginsOn, Held, moment_or}
-use Rattle.mq_begin.specs.Begun as begun
-use Rattle.mq_opening.specs.Opened.{JustBegun}
+use Rattle.mq_world.specs.from_begin.Begun.{AllBegan, BeginsOn, Held, moment_or}
+use Rattle.mq_world.specs.from_begin.Begun as begun
+use Rattle.mq_world.specs.from_opening.Opened.{JustBegun}
 use Rattle.mq_world.specs.Words.{Began, IsRested, IsRestedAt, OpensWith, RestState}
 use Rattle.mq_law_ran.specs.Runs.{AreHistories, AreOpenings, BeginsAs, IsOpening, nodes_from, standing_left}
 use Rattle.mq_law_ran.proofs.Lawfuls as lawfuls
@@ -25,16 +25,11 @@ use Rattle.mq_spec_network.specs.Given.{surroundings}
 use Rattle.mq_spec_node.specs.Node.{Node}
 use Rattle.mq_spec_node.specs.Replays.{state_of}
 use Rattle.mq_calls.specs.State.{Plain}
-use Rattle.mq_standing.specs.Stands.{cable_standing, cables_standing, manager_standing, receiver_standing, sender_standing}
+use Rattle.mq_law_ran.specs.from_standing.Stands.{cable_standing, cables_standing, manager_standing, receiver_standing, sender_standing}
 use Rattle.mq_world.specs.Starting.{IsFresh}
+use Rattle.mq_law_ran.proofs.Lawfuls.{there}
 use Rattle.mq_run.specs.Ends.{RanOn}
 use Rattle.mq_run.specs.Leaves.{AreKnownImages, cable_stands, cables_stand, left_of, manager_stands, node_at_rest, node_resting, stands_at_rest}
-
-there : {A B : Type 0} (xs : List A) (ys : List B) → length xs ≡ length ys → (m : ℕ) (x : A) → slice_get xs m ≡ Some x → (y : B) × (slice_get ys m ≡ Some y)
-there [] ys long m x e = absurd cc
-there (x ∷ xs) [] long m z e = absurd cc
-there (x ∷ xs) (y ∷ ys) long zero z e = (y, refl)
-there (x ∷ xs) (y ∷ ys) long (suc m) z e = there xs ys (omega (arith, long)) m z e
 
 -- ---- histories that replay
 

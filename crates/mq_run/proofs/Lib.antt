@@ -7,3 +7,5 @@ pub mod CommandLaws
 pub mod StoredLaws
 pub mod DiskLaws
 pub mod RestLaws
+pub mod from_law_ran
+pub mod from_soak

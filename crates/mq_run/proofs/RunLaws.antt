@@ -10,8 +10,8 @@ use Rattle.mq_spec_network.specs.Apart.{apart}
 use Rattle.mq_spec_network.specs.Lawful.{AreSteps, IsDone, Stands}
 use Rattle.mq_spec_network.specs.Story.{entries_at}
 use Rattle.mq_spec_network.specs.Tasks.{Task}
-use Rattle.mq_course.specs.Courses.{course_of, net_of}
-use Rattle.mq_course.proofs.CourseLaws.{histories_have}
+use Rattle.mq_world.specs.from_course.Courses.{course_of, net_of}
+use Rattle.mq_world.proofs.from_course.CourseLaws.{histories_have}
 use Rattle.mq_nodes.specs.declared.nodes.Stop.{Stop}
 use Rattle.mq_nodes.specs.declared.nodes.Stop.TheVariants as stops
 use Rattle.mq_nodes.specs.Carried.{AreCarriedSoFar}
@@ -21,7 +21,7 @@ use Rattle.mq_history.specs.Scenarios.{IsScenario}
 use Rattle.mq_history.specs.declared.story.Apart.{Apart}
 use Rattle.mq_spec_manager.specs.Stops.{last_moment}
 use Rattle.mq_spec_node.specs.Node.{Node}
-use Rattle.mq_net_ledger.specs.Opened.{AreOpened, IsOpened}
+use Rattle.mq_law_ran.specs.from_net_ledger.Opened.{AreOpened, IsOpened}
 use Rattle.mq_run.specs.declared.status.Status.{Status}
 use Rattle.mq_run.specs.declared.status.Status.TheVariants as status
 use Rattle.mq_run.specs.Statuses.{net_status, stop_status}
@@ -33,9 +33,9 @@ use Rattle.mq_world.specs.Resting.{rest_of}
 use Rattle.mq_world.specs.Starting.{IsFresh, Starts}
 use Rattle.mq_world.specs.Worlds.{NetState, course_in, histories_in, waits_in}
 use Rattle.mq_world.specs.Words.{Began, IsRested, RestState}
-use Rattle.mq_begin.specs.Begun.{Held, NotBegan, moment_or}
-use Rattle.mq_begin.specs.declared.faults.NetFault.{NetFault}
-use Rattle.mq_begin.specs.declared.faults.NetFault.TheVariants as faults
+use Rattle.mq_world.specs.from_begin.Begun.{Held, NotBegan, moment_or}
+use Rattle.mq_world.specs.from_begin.{NetFault}
+use Rattle.mq_world.specs.from_begin.NetFaultVariants as faults
 use Rattle.mq_law_ran.specs.Promises.{RestartsAreOwn}
 use Rattle.mq_law_ran.specs.Runs.{AreCarried, AreHistories, AreOpenings, Left, standing_left}
 use Rattle.mq_law_ran.proofs.Keeping.{begins_as, same_apart, same_begun, same_scenario}

@@ -1,9 +1,9 @@
 -- How a run of a scenario ends, by its status.
 use Rattle.std.specs.Prelude.{◌≡◌, ◌≤◌, ℕ, true, List, [], length, slice_get, take, Option, Some, None, Result, Ok, Err}
 use Rattle.std.specs.Io.KnownBytes.{Appends, Keeps}
-use Rattle.mq_begin.specs.Begun.{NotBegan}
-use Rattle.mq_begin.specs.declared.faults.NetFault.{NetFault}
-use Rattle.mq_begin.specs.declared.faults.NetFault.TheVariants as faults
+use Rattle.mq_world.specs.from_begin.Begun.{NotBegan}
+use Rattle.mq_world.specs.from_begin.{NetFault}
+use Rattle.mq_world.specs.from_begin.NetFaultVariants as faults
 use Rattle.mq_ending.specs.declared.verdict.Verdict.{Verdict}
 use Rattle.mq_ending.specs.declared.verdict.Verdict.TheVariants as verdicts
 use Rattle.mq_history.specs.declared.history.History.{History}

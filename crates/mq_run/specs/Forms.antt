@@ -4,7 +4,7 @@ use Rattle.mq_ending.specs.declared.ending.Ending.{Ending}
 use Rattle.mq_ending.specs.Verdicts.{verdict, verdict_number}
 use Rattle.mq_history.specs.declared.history.History.{History}
 use Rattle.mq_history.specs.declared.scenario.Scenario.{Scenario}
-use Rattle.mq_net_report.specs.Report.{report}
+use Rattle.mq_ending.specs.from_net_report.Report.{report}
 use Rattle.mq_net_stands.specs.declared.standing.Standing.{Standing}
 use Rattle.mq_soak.specs.Line.{soak_line}
 use Rattle.mq_spec_network.specs.Ledger.{ledger}

@@ -11,7 +11,7 @@ use Rattle.mq_spec_node.specs.Words.{Node, Own, node_of}
 use Rattle.mq_net_stands.specs.declared.standing.CableStanding.{CableStanding}
 use Rattle.mq_net_stands.specs.declared.standing.ManagerStanding.{ManagerStanding}
 use Rattle.mq_net_stands.specs.declared.standing.Standing.{Standing}
-use Rattle.mq_standing.specs.Stands.{manager_standing, receiver_standing, sender_standing}
+use Rattle.mq_law_ran.specs.from_standing.Stands.{manager_standing, receiver_standing, sender_standing}
 use Rattle.mq_world.specs.Words.{RestState}
 use Rattle.mq_law_ran.specs.Runs.{Left}
 

@@ -1,7 +1,7 @@
 -- Statuses: their numbers, and those of a run that was done whole, or broken off, or whose managers were not begun.
 use Rattle.std.specs.Prelude.{ℕ}
-use Rattle.mq_begin.specs.declared.faults.NetFault.{NetFault}
-use Rattle.mq_begin.specs.declared.faults.NetFault.TheVariants as faults
+use Rattle.mq_world.specs.from_begin.{NetFault}
+use Rattle.mq_world.specs.from_begin.NetFaultVariants as faults
 use Rattle.mq_ending.specs.declared.verdict.Verdict.{Verdict}
 use Rattle.mq_ending.specs.declared.verdict.Verdict.TheVariants as verdicts
 use Rattle.mq_nodes.specs.declared.nodes.Stop.{Stop}

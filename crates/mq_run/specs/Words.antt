@@ -5,7 +5,7 @@ pub use Rattle.mq_law_ran.specs.Promises.{GotOnce, IsPromised, OrderKept, Restar
 pub use Rattle.mq_base.specs.Outside.{Rose}
 pub use Rattle.mq_history.specs.Scenarios.{ArePhased, IsScenario}
 pub use Rattle.mq_law_ran.specs.Runs.{standing_left}
-pub use Rattle.mq_net_ledger.specs.Opened.{AreOpened}
+pub use Rattle.mq_law_ran.specs.from_net_ledger.Opened.{AreOpened}
 pub use Rattle.mq_nodes.specs.Carried.{AreCarriedSoFar}
 pub use Rattle.mq_nodes.specs.Course.{Ready, Rests}
 pub use Rattle.mq_nodes.specs.Runs.{Unmarked}
@@ -18,7 +18,7 @@ pub use Rattle.mq_run.specs.Leaves.{AreTimed, DiskRose, cable_stands, cables_sta
 pub use Rattle.mq_run.specs.Statuses.{net_status, status_number, stop_status, verdict_status}
 pub use Rattle.mq_spec_network.specs.Apart.{apart}
 pub use Rattle.mq_spec_network.specs.Lawful.{AreOwn, AreSteps, IsDone}
-pub use Rattle.mq_standing.specs.Stands.{receiver_standing, sender_standing}
+pub use Rattle.mq_law_ran.specs.from_standing.Stands.{receiver_standing, sender_standing}
 pub use Rattle.mq_story.specs.Spots.{AreRising}
 pub use Rattle.mq_world.specs.Starting.{IsFresh}
 pub use Rattle.mq_world.specs.Words.{IsRested, IsRisen, counts_in, course_in}

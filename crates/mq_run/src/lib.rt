@@ -1,6 +1,7 @@
 //! A scenario's run: its managers begin, its steps are done, and its report is written.
 #![tactic(auto)]
 
+pub mod below;
 mod reporting;
 mod running;
 mod standing;

@@ -13,7 +13,7 @@ use mq_disk::{Disk, Shelf};
 use mq_gate::Gate;
 use mq_history::Scenario;
 use mq_nodes::Stop;
-use mq_steps::run_steps;
+use mq_world::below::run_steps;
 use mq_world::{Network, Rested, begin};
 use std::alloc::Global;
 use std::sync::Wait;

@@ -6,8 +6,8 @@ use mq_base::{Items, NoMemory};
 use mq_core::Core;
 use mq_disk::Disk;
 use mq_history::{CableLine, Scenario};
+use mq_law_ran::below::{manager_standing, receiver_standing, sender_standing};
 use mq_net_stands::{CableStanding, ManagerStanding, ReceiverStanding, SenderStanding, Standing};
-use mq_standing::{manager_standing, receiver_standing, sender_standing};
 use mq_world::Rested;
 use std::alloc::Global;
 

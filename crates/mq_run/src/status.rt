@@ -2,12 +2,12 @@
 ghost use Rattle.std.specs.Prelude.{◌≡◌};
 ghost use Rattle.mq_run.specs.Words as terms;
 
-use mq_begin::NetFault;
 use mq_ending::{BadLog, Verdict};
 use mq_history::{Apart, Conflict};
 use mq_nodes::Stop;
 use mq_scn_lines::Limit;
 use mq_scn_text::Cause;
+use mq_world::below::NetFault;
 
 /// Why a line can't stand in a scenario.
 #[derive(Clone, Copy)]

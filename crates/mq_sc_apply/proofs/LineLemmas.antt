@@ -4,12 +4,10 @@ use Rattle.std.specs.Cmp.{first_so, second_so}
 use Rattle.std.specs.Prelude.{nat_eq}
 use Rattle.std.specs.List.{starts_with}
 use Rattle.std.specs.Str.{bytes_eq}
-use Rattle.mq_objects.specs.declared.object.Object.{Object}
-use Rattle.mq_objects.specs.declared.object.Object.TheVariants as objects
-use Rattle.mq_objects.specs.declared.command.Display.{Display}
-use Rattle.mq_objects.specs.declared.command.Subjects.{Subjects}
-use Rattle.mq_objects.specs.declared.command.Subjects.TheVariants as shows
-use Rattle.mq_objects.specs.Names.{space_in, same_space, space_of, name_of, is_object}
+use Rattle.mq_calls.specs.from_objects.{Display, Object, Subjects}
+use Rattle.mq_calls.specs.from_objects.ObjectVariants as objects
+use Rattle.mq_calls.specs.from_objects.SubjectsVariants as shows
+use Rattle.mq_calls.specs.from_objects.Names.{space_in, same_space, space_of, name_of, is_object}
 use Rattle.mq_sc_apply.specs.Uses.{Uses}
 use Rattle.mq_sc_apply.specs.Displayed.{is_meant, searched_space, has_name, is_shown, object_line, lines_of}
 

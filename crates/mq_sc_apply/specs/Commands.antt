@@ -1,9 +1,8 @@
 -- A command on the objects of a manager: its answer, and the definitions after it.
 use Rattle.std.specs.Prelude.{◌≡◌, ℕ, List, [], Result, Ok, Err}
-use Rattle.mq_objects.specs.declared.object.Definitions.{Definitions}
-use Rattle.mq_objects.specs.declared.command.Command.{Command}
-use Rattle.mq_objects.specs.declared.command.Command.TheVariants as commands
-use Rattle.mq_objects.specs.Changed.{changed}
+use Rattle.mq_calls.specs.from_objects.{Command, Definitions}
+use Rattle.mq_calls.specs.from_objects.CommandVariants as commands
+use Rattle.mq_calls.specs.from_objects.Changed.{changed}
 use Rattle.mq_calls.specs.declared.commands.Shown.{Shown}
 use Rattle.mq_calls.specs.declared.commands.ScRefusal.{ScRefusal}
 use Rattle.mq_calls.specs.declared.commands.ScRefusal.TheVariants as refusals

@@ -2,21 +2,14 @@
 use Rattle.std.specs.Prelude.{ℕ, Bool, true, false, not, ◌&&◌, List, [], ◌∷◌, ◌++◌, if◌then◌else◌, Result, Ok, Err, filter, map, flat_map, codes, nat_eq}
 use Rattle.std.specs.List.{starts_with}
 use Rattle.std.specs.Str.{bytes_eq}
-use Rattle.mq_objects.specs.declared.object.LocalQueue.{LocalQueue}
-use Rattle.mq_objects.specs.declared.object.Object.{Object}
-use Rattle.mq_objects.specs.declared.object.Object.TheVariants as objects
-use Rattle.mq_objects.specs.declared.object.ManagerAttributes.{ManagerAttributes}
-use Rattle.mq_objects.specs.declared.object.Definitions.{Definitions}
-use Rattle.mq_objects.specs.declared.setting.Keyword.{Keyword}
-use Rattle.mq_objects.specs.declared.setting.Keyword.TheVariants as keywords
-use Rattle.mq_objects.specs.declared.command.Subjects.{Subjects}
-use Rattle.mq_objects.specs.declared.command.Subjects.TheVariants as shows
-use Rattle.mq_objects.specs.declared.command.Display.{Display}
-use Rattle.mq_objects.specs.declared.key.NameSpace.{NameSpace}
-use Rattle.mq_objects.specs.declared.key.NameSpace.TheVariants.{Queues, Channels, Processes}
-use Rattle.mq_objects.specs.Names.{name_of}
-use Rattle.mq_objects.specs.Attributes.{Attribute, attributes, local_attributes, manager_attributes, kind_word, in_brackets, shown_attribute, number_of}
-use Rattle.mq_objects.specs.Written.{is_asked}
+use Rattle.mq_calls.specs.from_objects.{Definitions, Display, Keyword, LocalQueue, ManagerAttributes, NameSpace, Object, Subjects}
+use Rattle.mq_calls.specs.from_objects.ObjectVariants as objects
+use Rattle.mq_calls.specs.from_objects.KeywordVariants as keywords
+use Rattle.mq_calls.specs.from_objects.SubjectsVariants as shows
+use Rattle.mq_calls.specs.from_objects.NameSpaceVariants.{Queues, Channels, Processes}
+use Rattle.mq_calls.specs.from_objects.Names.{name_of}
+use Rattle.mq_calls.specs.from_objects.Attributes.{Attribute, attributes, local_attributes, manager_attributes, kind_word, in_brackets, shown_attribute, number_of}
+use Rattle.mq_calls.specs.from_objects.Written.{is_asked}
 use Rattle.mq_calls.specs.declared.commands.Shown.{Shown}
 use Rattle.mq_calls.specs.declared.commands.ScRefusal.{ScRefusal}
 use Rattle.mq_calls.specs.declared.commands.ScRefusal.TheVariants as refusals

@@ -2,3 +2,9 @@ pub mod Uses
 pub mod Planned
 pub mod Displayed
 pub mod Commands
+pub mod from_calls
+pub mod from_codes
+pub mod from_disk
+pub mod from_objects
+pub mod from_resolve
+pub mod from_sync

@@ -2,31 +2,19 @@
 use Rattle.std.specs.Prelude.{Bool, true, false, not, ◌&&◌, ◌||◌, List, [], ◌∷◌, Option, Some, None, Result, Ok, Err, if◌then◌else◌, filter}
 use Rattle.std.specs.List.{list_any}
 use Rattle.std.specs.Str.{bytes_eq}
-use Rattle.mq_objects.specs.declared.object.Usage.{Usage}
-use Rattle.mq_objects.specs.declared.object.Delivery.{Delivery}
-use Rattle.mq_objects.specs.declared.object.ChannelKind.{ChannelKind}
-use Rattle.mq_objects.specs.declared.object.ChannelKind.TheVariants as kinds
-use Rattle.mq_objects.specs.declared.object.Object.{Object}
-use Rattle.mq_objects.specs.declared.object.Object.TheVariants as objects
-use Rattle.mq_objects.specs.declared.object.ManagerAttributes.{ManagerAttributes}
-use Rattle.mq_objects.specs.declared.object.Definitions.{Definitions}
-use Rattle.mq_objects.specs.declared.setting.ChannelType.TheVariants as channel_types
-use Rattle.mq_objects.specs.declared.setting.Keyword.{Keyword}
-use Rattle.mq_objects.specs.declared.setting.Keyword.TheVariants as keywords
-use Rattle.mq_objects.specs.declared.setting.Setting.{Setting}
-use Rattle.mq_objects.specs.declared.setting.Setting.TheVariants as settings
-use Rattle.mq_objects.specs.declared.command.Subject.{Subject}
-use Rattle.mq_objects.specs.declared.command.Define.{Define}
-use Rattle.mq_objects.specs.declared.command.Alter.{Alter}
-use Rattle.mq_objects.specs.declared.command.AlterManager.{AlterManager}
-use Rattle.mq_objects.specs.declared.command.Delete.{Delete}
-use Rattle.mq_objects.specs.declared.change.ObjectChange.TheVariants as changes
-use Rattle.mq_objects.specs.Names.{named, is_kind, is_transmission, is_by_priority}
-use Rattle.mq_objects.specs.Defaults.{new_object}
-use Rattle.mq_objects.specs.Settings.{set_all, set_all_manager}
+use Rattle.mq_calls.specs.from_objects.{Alter, AlterManager, ChannelKind, Define, Definitions, Delete, Delivery, Keyword, ManagerAttributes, Object, Setting, Subject, Usage}
+use Rattle.mq_calls.specs.from_objects.ChannelKindVariants as kinds
+use Rattle.mq_calls.specs.from_objects.ObjectVariants as objects
+use Rattle.mq_calls.specs.from_objects.ChannelTypeVariants as channel_types
+use Rattle.mq_calls.specs.from_objects.KeywordVariants as keywords
+use Rattle.mq_calls.specs.from_objects.SettingVariants as settings
+use Rattle.mq_calls.specs.from_objects.ObjectChangeVariants as changes
+use Rattle.mq_calls.specs.from_objects.Names.{named, is_kind, is_transmission, is_by_priority}
+use Rattle.mq_calls.specs.from_objects.Defaults.{new_object}
+use Rattle.mq_calls.specs.from_objects.Settings.{set_all, set_all_manager}
 use Rattle.mq_calls.specs.declared.commands.ScRefusal.{ScRefusal}
 use Rattle.mq_calls.specs.declared.commands.ScRefusal.TheVariants as refusals
-use Rattle.mq_resolve.specs.Resolved.{Row, row, first_row}
+use Rattle.mq_calls.specs.from_resolve.Resolved.{Row, row, first_row}
 use Rattle.mq_sc_apply.specs.declared.answers.Planned.{Planned}
 use Rattle.mq_sc_apply.specs.Uses.{Uses}
 

@@ -1,6 +1,6 @@
 //! What a command comes to before it is done.
 use mq_calls::Shown;
-use mq_objects::ObjectChange;
+use mq_calls::below::ObjectChange;
 
 /// A change that a command makes, and what else it means for the manager.
 #[derive(Drop)]

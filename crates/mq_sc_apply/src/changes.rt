@@ -1,16 +1,9 @@
 //! What a change of an object means for its users: which changes lead a name elsewhere, and which use forbids them.
 ghost use Rattle.std.specs.Prelude.{◌≡◌};
-ghost use Rattle.mq_objects.specs.Names.{is_kind, is_transmission, is_by_priority};
 ghost use Rattle.mq_sc_apply.specs.Planned.{same_usage, same_delivery, leads_elsewhere, changes_usage, changes_rows, is_on_path, is_sent_from, is_busy, is_filled, is_used};
 
 use crate::in_use::InUse;
-use mq_objects::{Delivery, Object, Subject, Usage};
-
-fn is_transmission(usage: Usage) -> bool
-    ensures { result ≡ is_transmission usage }
-{
-    matches!(usage, Usage::Transmission)
-}
+use mq_calls::below::{Delivery, Object, Usage, is_by_priority, is_transmission};
 
 fn same_usage(a: Usage, b: Usage) -> bool
     ensures { result ≡ same_usage a b }
@@ -22,33 +15,14 @@ fn same_usage(a: Usage, b: Usage) -> bool
     }
 }
 
-fn is_by_priority(delivery: Delivery) -> bool
-    ensures { result ≡ is_by_priority delivery }
-{
-    matches!(delivery, Delivery::Priority)
-}
-
-fn same_delivery(a: Delivery, b: Delivery) -> bool
+/// Whether two deliveries are the same.
+pub fn same_delivery(a: Delivery, b: Delivery) -> bool
     ensures { result ≡ same_delivery a b }
 {
     if is_by_priority(a) {
         is_by_priority(b)
     } else {
         !is_by_priority(b)
-    }
-}
-
-/// Whether the object is of the kind that a command names.
-pub fn is_kind(subject: &Subject, object: &Object) -> bool
-    ensures { result ≡ is_kind subject.now object.now }
-{
-    match (subject, object) {
-        (Subject::Local(_), Object::Local(_)) => true,
-        (Subject::Alias(_), Object::Alias(_)) => true,
-        (Subject::Remote(_), Object::Remote(_)) => true,
-        (Subject::Channel(_), Object::Channel(_)) => true,
-        (Subject::Process(_), Object::Process(_)) => true,
-        _ => false,
     }
 }
 

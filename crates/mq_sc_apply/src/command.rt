@@ -6,9 +6,8 @@ use crate::answers::{Plan, Planned};
 use crate::display::display;
 use crate::in_use::InUse;
 use crate::plans::{alter, alter_manager, define, delete};
-use mq_base::{Items, QName};
+use mq_calls::below::{Command, Defs, Items, QName};
 use mq_calls::{ScRefusal, Shown};
-use mq_objects::{Command, Defs};
 use std::alloc::Global;
 
 fn to_change(answer: Result<Planned, ScRefusal>) -> Result<Plan, ScRefusal>

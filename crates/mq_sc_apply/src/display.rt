@@ -1,17 +1,16 @@
 //! DISPLAY: the lines that it shows.
 ghost use Rattle.std.specs.Prelude.{◌≡◌, false, [], ◌∷◌, ◌++◌, OnOk, IfOk};
-ghost use Rattle.mq_objects.specs.Attributes.{in_brackets};
-ghost use Rattle.mq_objects.specs.Written.{put_all};
+ghost use Rattle.mq_calls.specs.from_objects.Attributes.{in_brackets};
+ghost use Rattle.mq_calls.specs.from_objects.Written.{put_all};
 ghost use Rattle.mq_sc_apply.specs.Displayed.{is_meant, searched_space, has_name, is_shown, local_shown, shown_attributes, manager_shown, object_line, manager_line, lines_of, object_lines, lines_found, display};
 ghost use Rattle.mq_sc_apply.specs.Commands.{Gives};
 
 use crate::in_use::InUse;
-use mq_base::{Items, QName};
-use mq_calls::{ScRefusal, Shown};
-use mq_objects::{
-    Defs, Display, How, Keyword, LocalQueue, ManagerAttributes, NameSpace, Object, Style, Subjects,
-    write_number,
+use mq_calls::below::{
+    Defs, Display, How, Items, Keyword, LocalQueue, ManagerAttributes, NameSpace, Object, QName,
+    Style, Subjects, write_number,
 };
+use mq_calls::{ScRefusal, Shown};
 use std::alloc::{AllocError, Global};
 
 fn is_meant(subjects: Subjects, object: &Object) -> bool

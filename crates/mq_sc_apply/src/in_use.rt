@@ -2,7 +2,7 @@
 ghost use Rattle.std.specs.Prelude.{◌≡◌};
 ghost use Rattle.mq_sc_apply.specs.Uses.{Uses};
 
-use mq_base::{ChName, QName};
+use mq_calls::below::{ChName, QName};
 
 /// What the rest of a manager knows of the use of its objects.
 pub trait InUse {

@@ -3,6 +3,7 @@
 #![tactic(auto)]
 
 mod answers;
+pub mod below;
 mod changes;
 mod command;
 mod display;
@@ -10,6 +11,7 @@ mod in_use;
 mod plans;
 
 pub use answers::{Plan, Planned};
+pub use changes::same_delivery;
 pub use command::{apply, plan};
 pub use in_use::InUse;
 pub use plans::defined_object;

@@ -1,19 +1,19 @@
 //! DEFINE, ALTER and DELETE: what refuses them, and the change that each makes.
 ghost use Rattle.std.specs.Prelude.{◌≡◌, Some, OnOk, IfOk, filter};
 ghost use Rattle.std.specs.List.{list_any};
-ghost use Rattle.mq_objects.specs.Settings.{set_all, set_all_manager};
+ghost use Rattle.mq_calls.specs.from_objects.Settings.{set_all, set_all_manager};
 ghost use Rattle.mq_sc_apply.specs.Planned.{is_type_setting, defined_object, changed, define_at, define, bad_keyword, first_bad, bad_in, is_trigger_setting, switches_on, alter_good, alter_at, alter, default_changes, alter_attributes, alter_manager, delete_at, delete};
 ghost use Rattle.mq_sc_apply.specs.Commands.{Gives};
 
 use crate::answers::Planned;
 use crate::changes::{
-    changes_rows, is_busy, is_filled, is_kind, is_on_path, is_sent_from, is_used, leads_elsewhere,
+    changes_rows, is_busy, is_filled, is_on_path, is_sent_from, is_used, leads_elsewhere,
 };
 use crate::in_use::InUse;
 use mq_calls::ScRefusal;
-use mq_objects::{
+use mq_calls::below::{
     Alter, AlterManager, ChannelKind, ChannelType, Define, Defs, Delete, Keyword,
-    ManagerAttributes, Object, ObjectChange, Setting, Subject,
+    ManagerAttributes, Object, ObjectChange, Setting, Subject, is_kind,
 };
 use std::alloc::{AllocError, Global};
 

@@ -26,7 +26,7 @@ joins_read text last joined r are e = ap (λ (j : Joined). unless_open j.unfinis
 pub text_read : (text : List ℕ) (lines : List Line) → IsCommands text lines → commands_of text ≡ ok_lines lines
 text_read text lines (joined, are, of) = joins_read text Whole joined (ok_lines lines) are (lines_read joined lines of)
 
-continued : (last : Ending) → (last ≡ Whole → ⊥) → is_open last ≡ true
+pub continued : (last : Ending) → (last ≡ Whole → ⊥) → is_open last ≡ true
 continued Whole h = absurd (h refl)
 continued Plus h = refl
 continued Minus h = refl

@@ -4,8 +4,8 @@ use Rattle.std.specs.List.{list_all}
 use Rattle.std.specs.Str.{bytes_eq}
 use Rattle.mq_text.specs.declared.numbers.NumberFault.{NumberFault}
 use Rattle.mq_text.specs.Numbers.{number_in}
-use Rattle.mq_base.specs.declared.fault.NameFault.{NameFault}
-use Rattle.mq_base.specs.Name.{name_of}
+use Rattle.mq_objects.specs.from_base.{NameFault}
+use Rattle.mq_objects.specs.from_base.Name.{name_of}
 use Rattle.mq_objects.specs.declared.object.Delivery.{Delivery}
 use Rattle.mq_objects.specs.declared.object.Delivery.TheVariants as deliveries
 use Rattle.mq_objects.specs.declared.object.TriggerType.{TriggerType}

@@ -12,8 +12,8 @@ use crate::values::{
     appl_type_value, choice_value, delivery_value, enabled_or_not, name_value, number_value,
     priority_value, text_value, trigger_type_value, type_value, usage_value, yes_or_no,
 };
-use mq_base::Items;
 use mq_objects::Setting;
+use mq_objects::below::Items;
 use std::alloc::{AllocError, Global};
 
 /// What a keyword of DEFINE or ALTER gives.

@@ -2,6 +2,7 @@
 #![tactic(auto)]
 
 mod attributes;
+pub mod below;
 mod giving;
 mod keys;
 mod shown;

@@ -1,6 +1,6 @@
 //! What stands behind a keyword.
 
-use mq_base::Items;
+use mq_objects::below::Items;
 
 /// What stands in brackets behind a keyword.
 #[derive(Drop)]

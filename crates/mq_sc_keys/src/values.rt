@@ -7,7 +7,7 @@ ghost use Rattle.mq_sc_keys.specs.declared.value.Value.TheVariants.{Text};
 ghost use Rattle.mq_sc_keys.specs.Values.{number_or_none, number_value, are_blanks, name_or_blank, name_value, text_value, choice_of, choice_value, delivery_of, usage_of, type_of, trigger_type_of, trigger_type_value, appl_type_of, appl_type_value, yes_or_no, enabled_or_not};
 
 use crate::value::Value;
-use mq_base::{Items, QName};
+use mq_objects::below::{Items, QName};
 use mq_objects::{ChannelType, Delivery, TriggerType, Usage};
 use mq_text::number;
 use std::alloc::{AllocError, Global};

@@ -8,7 +8,7 @@ use crate::fault::LexFault;
 use crate::joining::{Mark, join_lines};
 use crate::token::Line;
 use crate::tokens::Commanding;
-use mq_base::Items;
+use mq_text::below::Items;
 use std::alloc::Global;
 
 /// The commands of a text in order.

@@ -4,7 +4,7 @@ ghost use Rattle.std.specs.Prelude.{◌≡◌, ◌+◌, ◌<◌, ◌≤◌, ◌+
 ghost use Rattle.std.specs.List.{prefix_len};
 ghost use Rattle.mq_sc_lex.specs.Joining.{is_blank, is_comment, ending_of, body_of, passed, marks_from, part_of, line_added, finished, IsTrimmed, joined_of};
 
-use mq_base::Items;
+use mq_text::below::Items;
 use mq_text::next_line;
 use std::alloc::{AllocError, Global};
 use std::mem;

@@ -1,6 +1,6 @@
 //! What the reader gives: tokens, where they stand, and the lines of them that are commands.
 
-use mq_base::Items;
+use mq_text::below::Items;
 
 /// Where a token stands. Between its first and last byte may stand a place at which its line goes on.
 #[derive(Clone, Copy, Debug, PartialEq, Eq)]

@@ -8,7 +8,7 @@ ghost use Rattle.mq_sc_lex.specs.Commands.{Adds};
 use crate::fault::LexFault;
 use crate::joining::Mark;
 use crate::token::{Line, Span, Token, TokenKind};
-use mq_base::Items;
+use mq_text::below::Items;
 use mq_text::{Piece, PieceFault, PieceKind, pieces, unquoted, upper};
 use std::alloc::{AllocError, Global};
 use std::mem;

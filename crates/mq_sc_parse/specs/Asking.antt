@@ -1,7 +1,6 @@
 -- The settings that a command gives, and the keywords that a DISPLAY asks for.
 use Rattle.std.specs.Prelude.{◌≡◌, List, [], ◌∷◌, Option, Some, None, Result, Ok, Err}
-use Rattle.mq_objects.specs.declared.setting.Setting.{Setting}
-use Rattle.mq_objects.specs.declared.setting.Keyword.{Keyword}
+use Rattle.mq_sc_keys.specs.from_objects.{Keyword, Setting}
 use Rattle.mq_sc_lex.specs.declared.token.Span.{Span}
 use Rattle.mq_sc_keys.specs.declared.keys.Key.{Key}
 use Rattle.mq_sc_keys.specs.declared.keys.Key.TheVariants as keys

@@ -2,8 +2,8 @@
 use Rattle.std.specs.Prelude.{ℕ, Bool, true, false, not, List, [], ◌∷◌, ◌++◌, if◌then◌else◌, Option, Some, None, codes, find, is_none}
 use Rattle.std.specs.List.{list_any}
 use Rattle.std.specs.Str.{bytes_eq}
-use Rattle.mq_objects.specs.declared.setting.ChannelType.{ChannelType}
-use Rattle.mq_objects.specs.declared.setting.ChannelType.TheVariants as types
+use Rattle.mq_sc_keys.specs.from_objects.{ChannelType}
+use Rattle.mq_sc_keys.specs.from_objects.ChannelTypeVariants as types
 use Rattle.mq_sc_lex.specs.declared.token.Span.{Span}
 use Rattle.mq_sc_keys.specs.declared.keys.Key.{Key}
 use Rattle.mq_sc_keys.specs.declared.verbs.Verb.{Verb}

@@ -1,15 +1,13 @@
 -- The command of a line.
 use Rattle.std.specs.Prelude.{ℕ, ◌-◌, ◌==◌, Bool, true, false, min, List, [], ◌∷◌, length, take, drop, slice_get, is_some, if◌then◌else◌, Option, Some, None, Result, Ok, Err, codes}
 use Rattle.std.specs.Option.{option_map}
-use Rattle.mq_base.specs.Name.{name_of}
+use Rattle.mq_sc_keys.specs.from_base.Name.{name_of}
 use Rattle.mq_sync.specs.declared.unit.Settle.{Settle}
 use Rattle.mq_sync.specs.declared.unit.Settle.TheVariants as settles
-use Rattle.mq_objects.specs.declared.setting.Keyword.{Keyword}
-use Rattle.mq_objects.specs.declared.command.Subject.{Subject}
-use Rattle.mq_objects.specs.declared.command.Subject.TheVariants as subjects
-use Rattle.mq_objects.specs.declared.command.Subjects.{Subjects}
-use Rattle.mq_objects.specs.declared.command.Subjects.TheVariants as shown
-use Rattle.mq_objects.specs.declared.command.Command.TheVariants as objects
+use Rattle.mq_sc_keys.specs.from_objects.{Keyword, Subject, Subjects}
+use Rattle.mq_sc_keys.specs.from_objects.SubjectVariants as subjects
+use Rattle.mq_sc_keys.specs.from_objects.SubjectsVariants as shown
+use Rattle.mq_sc_keys.specs.from_objects.CommandVariants as objects
 use Rattle.mq_sc_lex.specs.declared.token.Token.{Token}
 use Rattle.mq_sc_lex.specs.declared.token.Span.{Span}
 use Rattle.mq_sc_lex.specs.declared.token.Line.{Line}

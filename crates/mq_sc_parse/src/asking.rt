@@ -5,8 +5,7 @@ ghost use Rattle.mq_sc_parse.specs.Asking.{given_item, settings_of, asked_key, a
 
 use crate::fault::ScFault;
 use crate::splitting::Item;
-use mq_base::Items;
-use mq_objects::{Keyword, Setting};
+use mq_sc_keys::below::{Items, Keyword, Setting};
 use mq_sc_keys::{Given, Key, Kind, Value, Verb, given_of, key_of, keyword_of};
 use std::alloc::{AllocError, Global};
 

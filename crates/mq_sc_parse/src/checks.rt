@@ -6,7 +6,7 @@ ghost use Rattle.std.specs.Str.{bytes_eq};
 ghost use Rattle.mq_sc_parse.specs.Checks.{is_unknown, first_unknown, item_group, is_among, first_repeated, has_word, item_of, kind_of_type, type_of_item, channel_kind, kind_of, lacks};
 
 use crate::splitting::Item;
-use mq_objects::ChannelType;
+use mq_sc_keys::below::ChannelType;
 use mq_sc_keys::{Kind, Noun, Verb, key_of, type_value};
 use mq_sc_lex::Span;
 

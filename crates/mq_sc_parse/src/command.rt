@@ -1,6 +1,6 @@
 //! What a command is.
 
-use mq_base::ChName;
+use mq_sc_keys::below::ChName;
 use mq_sync::Settle;
 
 /// A command on a channel's end. Source: MQSC reference, START, STOP, RESET and RESOLVE CHANNEL.
@@ -18,7 +18,7 @@ pub enum Op {
 #[derive(Drop)]
 pub enum Command {
     /// DEFINE, ALTER, DELETE or DISPLAY of objects.
-    Objects(mq_objects::Command),
+    Objects(mq_sc_keys::below::Command),
     /// START, STOP, RESET or RESOLVE of a channel's end.
     Operate(Op),
     /// DISPLAY CHSTATUS of a name, or of each that begins so.

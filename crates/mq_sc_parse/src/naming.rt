@@ -8,8 +8,7 @@ ghost use Rattle.mq_sc_parse.specs.Parsing.{some_or, named_as, value_span, has_n
 
 use crate::fault::ScFault;
 use crate::splitting::{value_at, value_len};
-use mq_base::{ChName, Items, QName};
-use mq_objects::{Subject, Subjects};
+use mq_sc_keys::below::{ChName, Items, QName, Subject, Subjects};
 use mq_sc_keys::{Noun, Value, are_blanks};
 use mq_sc_lex::{Span, Token};
 use std::alloc::{AllocError, Global};

@@ -13,8 +13,7 @@ use crate::naming::{
     subjects_of,
 };
 use crate::splitting::{Item, items_of, word_of};
-use mq_base::Items;
-use mq_objects::{Alter, AlterManager, Define, Delete, Display, Keyword};
+use mq_sc_keys::below::{Alter, AlterManager, Define, Delete, Display, Items, Keyword};
 use mq_sc_keys::{Kind, Noun, Verb, choice_value, number_value, object_of, verb_of};
 use mq_sc_lex::{Line, Span, Token};
 use mq_sync::Settle;
@@ -107,7 +106,7 @@ fn define_of(
     if lacks(kind, items) {
         return Err(ScFault::BadValue(last));
     }
-    Ok(Command::Objects(mq_objects::Command::Define(Define {
+    Ok(Command::Objects(mq_sc_keys::below::Command::Define(Define {
         subject,
         replace: has_word(b"REPLACE", items),
         settings,
@@ -119,7 +118,7 @@ fn alter_manager_of(alloc: Global, items: &[Item]) -> Result<Command, ScFault>
     ensures { Gives result (alter_manager_of items.now) }
 {
     let settings = settings_of(alloc, Verb::Alter, Kind::Manager, items)?;
-    Ok(Command::Objects(mq_objects::Command::AlterManager(AlterManager {
+    Ok(Command::Objects(mq_sc_keys::below::Command::AlterManager(AlterManager {
         force: has_word(b"FORCE", items),
         settings,
     })))
@@ -139,7 +138,7 @@ fn alter_object_of(
         return Err(ScFault::BadValue(name.span));
     };
     let settings = settings_of(alloc, Verb::Alter, kind, items)?;
-    Ok(Command::Objects(mq_objects::Command::Alter(Alter {
+    Ok(Command::Objects(mq_sc_keys::below::Command::Alter(Alter {
         subject,
         force: has_word(b"FORCE", items),
         settings,
@@ -169,7 +168,7 @@ fn delete_of(noun: Noun, name: &Named) -> Result<Command, ScFault>
     let Some(subject) = subject_of(noun, name.text.as_slice()) else {
         return Err(ScFault::BadValue(name.span));
     };
-    Ok(Command::Objects(mq_objects::Command::Delete(Delete { subject })))
+    Ok(Command::Objects(mq_sc_keys::below::Command::Delete(Delete { subject })))
 }
 
 fn asked_or_all(alloc: Global, items: &[Item], asked: Items<Keyword>) -> Items<Keyword>
@@ -195,7 +194,7 @@ fn show_objects(
 {
     let asked = asked_of(alloc, Verb::Display, kind, items)?;
     let asked = asked_or_all(alloc, items, asked);
-    Ok(Command::Objects(mq_objects::Command::Display(Display {
+    Ok(Command::Objects(mq_sc_keys::below::Command::Display(Display {
         subjects: subjects_of(noun),
         name,
         any_end,

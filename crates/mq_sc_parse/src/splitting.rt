@@ -5,8 +5,8 @@ ghost use Rattle.std.specs.List.{position_or_len};
 ghost use Rattle.mq_sc_keys.specs.declared.value.Value.TheVariants.{Text, Absent};
 ghost use Rattle.mq_sc_parse.specs.Splitting.{is_open_kind, is_close_kind, is_word_kind, is_open, is_close, is_bracket, closing_len, inner_len, word_of_kind, text_value, bracketed, value_at, value_len, item_at, item_len, items_of};
 
-use mq_base::Items;
 use mq_sc_keys::Value;
+use mq_sc_keys::below::Items;
 use mq_sc_lex::{Span, Token, TokenKind};
 use std::alloc::{AllocError, Global};
 

@@ -3,4 +3,4 @@
 
 mod scanning;
 
-pub use scanning::{Met, scan};
+pub use scanning::{Met, row_under, scan, start_of};

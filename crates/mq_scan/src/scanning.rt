@@ -9,9 +9,9 @@ ghost use Rattle.mq_scan.specs.Scans.{scan_of, scanned_at, start_of, met_of};
 
 use mq_base::{Items, NoMemory};
 use mq_calls::{Get, Take};
-use mq_message::{Ident, Message, Place, Want};
-use mq_place::LocalRows;
-use mq_queue::{Queue, Row};
+use mq_message::{Ident, Place, Want};
+use mq_place::{LocalRows, is_past};
+use mq_queue::{Queue, Row, is_free, is_persistent};
 
 /// An expired row that a scan met.
 #[derive(Clone, Copy, Drop)]
@@ -30,32 +30,6 @@ impl Met {
             ident: row.message.ident,
             persistent: is_persistent(&row.message),
         }
-    }
-}
-
-fn is_persistent(message: &Message) -> bool
-    ensures { result ≡ is_persistent message.now }
-{
-    message.md.persistence == 1
-}
-
-/// Whether no unit and no batch holds it.
-fn is_free(row: &Row) -> bool
-    ensures { result ≡ is_free row.now }
-{
-    match row.by {
-        None => true,
-        Some(_) => false,
-    }
-}
-
-/// Whether the deadline is there and has come.
-fn is_past(moment: u64, deadline: Option<u64>) -> bool
-    ensures { result ≡ is_past moment deadline }
-{
-    match deadline {
-        None => false,
-        Some(deadline) => deadline <= moment,
     }
 }
 
@@ -85,8 +59,11 @@ fn scan_from<'a, Q: Queue + Drop>(
     Ok(None)
 }
 
-// The row under a cursor, where one is set.
-fn row_under<'a, Q: Queue + Drop>(local: &'a LocalRows<Q>, cursor: Option<Place>) -> Option<&'a Row>
+/// The row under a cursor, where one is set.
+pub fn row_under<'a, Q: Queue + Drop>(
+    local: &'a LocalRows<Q>,
+    cursor: Option<Place>,
+) -> Option<&'a Row>
     ensures { option_to_list (option_copied result) ≡ filter (is_at cursor) local.now.queue.rows }
 {
     let _len = local.len();
@@ -141,8 +118,8 @@ fn is_under(take: &Take) -> bool
     }
 }
 
-// The place behind which a scan begins; none for the front.
-fn start_of(take: &Take, cursor: Option<Place>) -> Option<Place>
+/// The place behind which a scan begins; none for the front.
+pub fn start_of(take: &Take, cursor: Option<Place>) -> Option<Place>
     ensures { result ≡ start_of take.now cursor }
 {
     match take {

@@ -5,3 +5,4 @@ pub mod Phases
 pub mod Parts
 pub mod Heading
 pub mod Steps
+pub mod from_scn_script

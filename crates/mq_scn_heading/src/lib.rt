@@ -1,6 +1,7 @@
 //! The lines with which the parts of a scenario begin, and its steps: what each says, or its first fault.
 #![tactic(auto)]
 
+pub mod below;
 mod cables;
 mod distinct;
 mod heading;

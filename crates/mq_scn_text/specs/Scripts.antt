@@ -6,8 +6,8 @@ use Rattle.mq_scn_lines.specs.declared.fault.Limit.TheVariants as limits
 use Rattle.mq_scn_lines.specs.declared.fault.LineFault.{LineFault}
 use Rattle.mq_scn_lines.specs.declared.fault.LineFault.TheVariants as faults
 use Rattle.mq_scn_lines.specs.Faults.{both}
-use Rattle.mq_scn_script.specs.Bodies.{body_len}
-use Rattle.mq_scn_script.specs.Lines.{script_line}
+use Rattle.mq_scn_heading.specs.from_scn_script.Bodies.{body_len}
+use Rattle.mq_scn_heading.specs.from_scn_script.Lines.{script_line}
 use Rattle.mq_scn_text.specs.declared.scripts.Script.{Script}
 
 -- a script without lines

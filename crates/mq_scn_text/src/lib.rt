@@ -1,6 +1,7 @@
 //! Scenarios from their text: whole texts, line by line, with the first line that can't stand and why.
 #![tactic(auto)]
 
+pub mod below;
 mod fault;
 mod reading;
 mod scripts;

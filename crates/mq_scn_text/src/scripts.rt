@@ -6,8 +6,8 @@ ghost use Rattle.mq_scn_text.specs.Scripts.{new_script, put_len, connects, conne
 
 use mq_base::{Items, Label};
 use mq_history::{ScriptLine, ScriptPart};
+use mq_scn_heading::below::{body_len, script_line};
 use mq_scn_lines::{Limit, LineFault, both};
-use mq_scn_script::{body_len, script_line};
 use std::alloc::{AllocError, Global};
 
 /// A script whose end wasn't read yet.

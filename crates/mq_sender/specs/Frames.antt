@@ -1,7 +1,6 @@
 -- The frames that a sender pushes.
 use Rattle.std.specs.Prelude.{ℕ, Option, Some, None}
-use Rattle.mq_message.specs.declared.message.Dest.{Dest}
-use Rattle.mq_message.specs.declared.message.Message.{Message}
+use Rattle.mq_frame.specs.from_message.{Dest, Message}
 use Rattle.mq_frame.specs.declared.frame.Frame.{Frame}
 use Rattle.mq_frame.specs.declared.frame.FrameKind.TheVariants.{Bind, Msg, End}
 use Rattle.mq_sender.specs.declared.state.Sender.{Sender}

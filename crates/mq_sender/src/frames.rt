@@ -5,8 +5,8 @@ ghost use Rattle.mq_sender.specs.After.{number_next};
 ghost use Rattle.mq_sender.specs.Frames.{bind_frame, message_frame, end_frame};
 
 use crate::state::{Sender, SenderState};
+use mq_frame::below::{Dest, Message};
 use mq_frame::{Frame, FrameKind};
-use mq_message::{Dest, Message};
 use mq_sync::next_number;
 
 impl Sender {

@@ -5,7 +5,7 @@ use Rattle.mq_base.specs.Members.{Mem}
 use Rattle.mq_history.specs.declared.scenario.Scenario.{Scenario}
 use Rattle.mq_spec_node.specs.Terms.{Entry, ScriptPart}
 use Rattle.mq_spec_network.specs.Tasks.{Trying}
-use Rattle.mq_events.specs.States.{NodeState, IsServed}
+use Rattle.mq_acts.specs.from_events.States.{NodeState, IsServed}
 use Rattle.mq_split.specs.Took.{EndState}
 use Rattle.mq_split.specs.Ends.{AreFree, EachIs, EndsApart, IsEndAt, end_name}
 use Rattle.mq_shared.specs.Held.{Begun, IsScriptIn, Kept, ScriptState, ScriptsApart, cables_begun, entries_begun, entries_or, script_name}

@@ -1,32 +1,25 @@
 -- What is kept under a lock is kept by entries more that a phase may have.
-use Rattle.std.proofs.Common.{◌≡◌, ◌≢◌, ℕ, zero, suc, ◌≤◌, ◌<◌, ◌^◌, Bool, true, false, List, [], ◌∷◌, ◌++◌, length, refl, sym, ap, subst, ◌∙◌, append_assoc, append-nil, inl, inr, ⊎_elim, arith}
+use Rattle.std.proofs.Common.{◌≡◌, ◌≢◌, ℕ, zero, suc, ◌≤◌, ◌<◌, ◌^◌, Bool, true, false, List, [], ◌∷◌, ◌++◌, length, refl, sym, ap, subst, ◌∙◌, append_assoc, append-nil, inl, inr, ⊎_elim}
 use Rattle.std.specs.Prelude.{◌⊎◌, IfSome, Some, None, map, slice_get, slice_set}
 use Rattle.std.specs.List.{AllByRecursion}
 use Rattle.mq_history.specs.declared.history.History.{History}
 use Rattle.mq_spec_node.specs.Node.{Node}
 use Rattle.mq_spec_node.specs.Replays.{Follows, Tells, after, done_by, opening_node}
 use Rattle.mq_spec_node.specs.Terms.{Entry}
-use Rattle.mq_spec_node.specs.Words.{Grows, NodeValue, more_entries, stamp_after}
+use Rattle.mq_spec_node.specs.Words.{Grows, NodeValue, stamp_after}
 use Rattle.mq_spec_network.specs.Steps.{AllInPhase, AreTriggers, InPhase}
 use Rattle.mq_spec_network.specs.Tasks.{Trying}
-use Rattle.mq_events.specs.States.{NodeState, IsKept, IsServed, node_in, value_of}
-use Rattle.mq_events.specs.Events.{MayAct}
+use Rattle.mq_acts.specs.from_events.States.{NodeState, IsKept, IsServed, node_in, value_of}
+use Rattle.mq_acts.specs.from_events.Events.{MayAct}
 use Rattle.mq_acts.specs.Advances.{IsTextLine}
 use Rattle.mq_acts.specs.Serving.{AreTurns, IsDone}
 use Rattle.mq_split.specs.Took.{EndState}
 use Rattle.mq_split.specs.Ends.{AreFree, EachIs, EndsApart, IsEndAt, end_name}
+pub use Rattle.mq_acts.proofs.ServeLaws.{grows_more as grows_on}
+use Rattle.mq_split.proofs.PlaceLaws.{get_set}
 use Rattle.mq_shared.specs.Held.{Begun, Held, IsScriptIn, Kept, ScriptState, ScriptsApart, cables_begun, script_name}
 use Rattle.mq_shared.specs.Events.{Stayed, Went}
 use Rattle.mq_shared.proofs.QuietLaws.{IsSilent, behind_silent}
-
--- LISTS: one of several changes.
-get_set : {A : Type 0} (xs : List A) (k j : ℕ) (x w : A) → slice_get (slice_set xs k x) j ≡ Some w → ((j ≡ k) × (x ≡ w)) ⊎ ((j ≢ k) × (slice_get xs j ≡ Some w))
-get_set [] k j x w e = inr ((λ p. cc e), e)
-get_set (y ∷ xs) zero zero x w e = inl (refl, cc e)
-get_set (y ∷ xs) zero (suc j) x w e = inr ((λ p. omega (arith, p)), e)
-get_set (y ∷ xs) (suc k) zero x w e = inr ((λ p. omega (arith, p)), e)
-get_set (y ∷ xs) (suc k) (suc j) x w e =
-    ⊎_elim (λ (p : (j ≡ k) × (x ≡ w)). inl (ap suc p.0, p.1)) (λ (p : (j ≢ k) × (slice_get xs j ≡ Some w)). inr ((λ q. p.0 (omega (arith, q))), p.1)) (get_set xs k j x w e)
 
 pub each_set : {A : Type 0} (P : A → Type 0) (xs : List A) (k : ℕ) (x : A) → P x → ((j : ℕ) (y : A) → j ≢ k → slice_get xs j ≡ Some y → P y) → EachIs P (slice_set xs k x)
 each_set P xs k x mine others j y e = ⊎_elim (λ (p : (j ≡ k) × (x ≡ y)). subst P p.1 mine) (λ (p : (j ≢ k) × (slice_get xs j ≡ Some y)). others j y p.0 p.1) (get_set xs k j x y e)
@@ -69,12 +62,6 @@ made_in ts m done e behind h t = (inl h, turns_in ts m (done ++ e ∷ []) behind
 pub are_triggers : (es : List Entry) → AreTurns es → AreTriggers es
 are_triggers [] h = tt
 are_triggers (e ∷ es) h = (h.0, are_triggers es h.1)
-
-pub grows_on : (a b c : NodeValue) (xs ys : List Entry) → Grows a xs b → Grows b ys c → Grows a (xs ++ ys) c
-grows_on a b c xs ys g h = record {
-  given = h.given ∙ g.given;
-  history = h.history ∙ ap (more_entries ys) g.history ∙ ap (λ (es : List Entry). record a.history { entries = es }) (append_assoc a.history.entries xs ys);
-}
 
 pub grown_entries : (a b : NodeValue) (xs : List Entry) → Grows a xs b → b.history.entries ≡ a.history.entries ++ xs
 grown_entries a b xs g = ap (λ (h : History). h.entries) g.history

@@ -16,3 +16,6 @@ pub mod TakeLaws
 pub mod RanLaws
 pub mod OverLaws
 pub mod ReadyLaws
+pub mod from_acts
+pub mod from_split
+pub mod from_turn_parts

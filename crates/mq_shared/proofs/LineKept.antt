@@ -8,7 +8,7 @@ use Rattle.mq_base.specs.declared.want.NoMemory.{NoMemory}
 use Rattle.mq_history.specs.declared.calls.Actor.TheVariants as actors
 use Rattle.mq_spec_node.specs.Terms.{Entry}
 use Rattle.mq_spec_node.specs.Words.{is_script}
-use Rattle.mq_events.specs.States.{NodeState, IsKept, IsServed, value_of}
+use Rattle.mq_acts.specs.from_events.States.{NodeState, IsKept, IsServed, value_of}
 use Rattle.mq_acts.specs.Serving.{IsDone}
 use Rattle.mq_ways.specs.Ways.{IsQuietEntry}
 use Rattle.mq_shared.specs.declared.trying.Tried.{Tried}

@@ -13,7 +13,7 @@ use Rattle.mq_spec_network.specs.Tasks.{Trying}
 use Rattle.mq_progress.specs.Course.{Course, Stands}
 use Rattle.mq_progress.proofs.CourseLaws.{stands_others}
 use Rattle.mq_ways.specs.Ways.{CableState}
-use Rattle.mq_events.specs.States.{NodeState, value_of}
+use Rattle.mq_acts.specs.from_events.States.{NodeState, value_of}
 use Rattle.mq_split.specs.Facing.{AreJoined, Facing}
 use Rattle.mq_split.specs.Took.{EndState}
 use Rattle.mq_split.specs.Ends.{IsEndAt, end_name}

@@ -6,7 +6,7 @@ use Rattle.mq_history.specs.declared.scenario.Scenario.{Scenario}
 use Rattle.mq_spec_node.specs.Terms.{Entry}
 use Rattle.mq_spec_node.specs.Words.{by, is_receiver, is_sender}
 use Rattle.mq_progress.specs.Course.{Course}
-use Rattle.mq_events.specs.States.{NodeState}
+use Rattle.mq_acts.specs.from_events.States.{NodeState}
 use Rattle.mq_nodes.specs.declared.nodes.Stop.{Stop}
 use Rattle.mq_ways.specs.Ways.{CableState}
 use Rattle.mq_ways.proofs.WayLaws.{low_items}

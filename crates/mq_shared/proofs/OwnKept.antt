@@ -6,12 +6,12 @@ use Rattle.mq_history.specs.declared.calls.Call.{Call}
 use Rattle.mq_history.specs.declared.calls.Call.TheVariants as calls
 use Rattle.mq_spec_node.specs.Terms.{Actor, Entry}
 use Rattle.mq_spec_node.specs.Words.{NodeValue, NoneForeign}
-use Rattle.mq_events.specs.States.{NodeState, IsKept}
+use Rattle.mq_acts.specs.from_events.States.{NodeState, IsKept}
 use Rattle.mq_acts.specs.Restarts.{StaysOwn}
 use Rattle.mq_acts.specs.Serving.{AreTurns}
 use Rattle.mq_acts.proofs.OwnLaws.{IsNoRestart, NoRestarts, grows_own}
-use Rattle.mq_turns.specs.declared.telling.Turn.{Turn}
-use Rattle.mq_turns.specs.declared.telling.Turn.TheVariants as turns
+use Rattle.mq_takes.specs.from_turn_parts.{Turn}
+use Rattle.mq_takes.specs.from_turn_parts.TurnVariants as turns
 use Rattle.mq_split.specs.Took.{EndState}
 use Rattle.mq_shared.specs.Events.{Made, Stayed, TimeTried, TurnTried}
 

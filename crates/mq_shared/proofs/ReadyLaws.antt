@@ -1,8 +1,8 @@
 -- How a phase ends where memory sufficed: each node may act, as far as they were looked at.
 use Rattle.std.proofs.Common.{◌≡◌, ℕ, ◌+◌, ◌<◌, ◌≤◌, List, length, ap, sym, subst, ◌∙◌, ⊎_elim, arith}
 use Rattle.std.specs.Prelude.{Some, slice_get}
-use Rattle.mq_events.specs.States.{NodeState}
-use Rattle.mq_events.specs.Events.{MayAct}
+use Rattle.mq_acts.specs.from_events.States.{NodeState}
+use Rattle.mq_acts.specs.from_events.Events.{MayAct}
 use Rattle.mq_shared.specs.Phasing.{AreReady}
 use Rattle.mq_shared.specs.Taking.{AreDone}
 use Rattle.mq_shared.proofs.KeptLaws.{served_of}

@@ -56,7 +56,7 @@ script_others b m done behind e s other t h = record {
 }
 
 -- and behind its line.
-less : {A : Type 0} (xs : List A) (n : ℕ) (x : A) → slice_get xs n ≡ Some x → n < length xs
+pub less : {A : Type 0} (xs : List A) (n : ℕ) (x : A) → slice_get xs n ≡ Some x → n < length xs
 less [] n x e = absurd cc
 less (y ∷ ys) zero x e = omega arith
 less (y ∷ ys) (suc n) x e = let h = less ys n x e in omega (arith, h)

@@ -7,7 +7,7 @@ use Rattle.mq_history.specs.declared.scenario.Scenario.{Scenario}
 use Rattle.mq_spec_node.specs.Terms.{ScriptPart}
 use Rattle.mq_spec_network.specs.Tasks.{Trying}
 use Rattle.mq_progress.specs.Course.{Course}
-use Rattle.mq_events.specs.States.{NodeState}
+use Rattle.mq_acts.specs.from_events.States.{NodeState}
 use Rattle.mq_split.specs.Ends.{EachIs}
 use Rattle.mq_shared.specs.Held.{Begun, IsScriptIn, ScriptState, ScriptsApart, entries_begun, script_name}
 use Rattle.mq_shared.specs.Phasing.{among, moment_or, tries_in, tries_one}

@@ -6,6 +6,7 @@ use Rattle.std.proofs.lemmas.List.Elements.{All-get_or}
 use Rattle.std.proofs.lemmas.Option.{get_or_from_slice_get, slice_get_within}
 use Rattle.std.proofs.lemmas.Bool.Decides.{nat_tests}
 use Rattle.mq_base.specs.Members.{Mem}
+pub use Rattle.mq_shared.proofs.ScriptLaws.{less}
 
 pub are_same : (a b : ℕ) → (a == b) ≡ true → a ≡ b
 are_same a b e = grind (arith, nat_tests)
@@ -33,12 +34,6 @@ both_so false b e = absurd cc
 pub so_both : (a b : Bool) → a ≡ true → b ≡ true → (a && b) ≡ true
 so_both true b e f = f
 so_both false b e f = absurd cc
-
--- a place that is there, and one that is not
-pub less : {A : Type 0} (xs : List A) (n : ℕ) (x : A) → slice_get xs n ≡ Some x → n < length xs
-less [] n x e = absurd cc
-less (y ∷ ys) zero x e = omega arith
-less (y ∷ ys) (suc n) x e = let h = less ys n x e in omega (arith, h)
 
 low : (n : ℕ) → n < 0 → ⊥
 low n h = omega arith

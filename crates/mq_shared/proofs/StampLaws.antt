@@ -24,8 +24,8 @@ use Rattle.mq_spec_node.specs.Senders.{after_timeout}
 use Rattle.mq_spec_node.specs.Deeds.{done}
 use Rattle.mq_spec_node.specs.Words.{CanCome, Deed, Node, SenderEnd, deed_of, sender_end}
 use Rattle.mq_spec_network.specs.Cables.{is_popped}
-use Rattle.mq_events.specs.States.{NodeState, node_in}
-use Rattle.mq_events.specs.Events.{MayAct}
+use Rattle.mq_acts.specs.from_events.States.{NodeState, node_in}
+use Rattle.mq_acts.specs.from_events.Events.{MayAct}
 use Rattle.mq_shared.proofs.DeedLaws.{IsEnd, PushesOr}
 
 -- A TURN: the deed came, under a choice.
@@ -132,7 +132,7 @@ offers_none n Up (Some e) choice = by (awaits e.machine.state) choice
     by true (Stopped part how left) = refl
     by false c = refl
 
-event_offers : (k stamp : ℕ) (chance : Chance) (seen : Seen) (n : Node) → (event stamp (actors.Sender k) calls.Timeout chance seen n).pushed ≡ None
+pub event_offers : (k stamp : ℕ) (chance : Chance) (seen : Seen) (n : Node) → (event stamp (actors.Sender k) calls.Timeout chance seen n).pushed ≡ None
 event_offers k stamp (chances.Call choice) seen n = offers_none n n.manager.running (sender_end k n.own) choice
 event_offers k stamp (chances.Restart choice) seen n = refl
 event_offers k stamp (chances.Foreign image length left) seen n = refl

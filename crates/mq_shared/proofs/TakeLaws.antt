@@ -5,7 +5,7 @@ use Rattle.mq_base.specs.Members.{Mem}
 use Rattle.mq_spec_node.specs.Terms.{Entry, ScriptPart}
 use Rattle.mq_spec_network.specs.Tasks.{Trying}
 use Rattle.mq_progress.specs.Course.{Course}
-use Rattle.mq_events.specs.States.{IsKept, NodeState, value_of}
+use Rattle.mq_acts.specs.from_events.States.{IsKept, NodeState, value_of}
 use Rattle.mq_acts.specs.Serving.{IsDone}
 use Rattle.mq_acts.specs.Restarts.{StaysOwn}
 use Rattle.mq_split.specs.Took.{EndState}

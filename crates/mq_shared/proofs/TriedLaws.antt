@@ -11,18 +11,18 @@ use Rattle.mq_spec_node.specs.Lines.Next.{Waits}
 use Rattle.mq_spec_node.specs.Terms.{Actor, Entry, ScriptLine}
 use Rattle.mq_spec_node.specs.Words.{Deed, deadline, deadline_kept, line_call, next_if, wait_of}
 use Rattle.mq_progress.specs.Course.{Course, call_in, until_in}
-use Rattle.mq_events.specs.States.{NodeState, value_of}
-use Rattle.mq_events.specs.Events.{Adds, Stays}
+use Rattle.mq_acts.specs.from_events.States.{NodeState, value_of}
+use Rattle.mq_acts.specs.from_events.Events.{Adds, Stays}
 use Rattle.mq_history.specs.declared.scripts.ScriptLine.TheVariants as lines
 use Rattle.mq_acts.specs.Advances.{Advances, Keeps, LineDone, LineWaits, NoLine}
 use Rattle.mq_acts.specs.declared.advancing.Advanced.{Advanced}
 use Rattle.mq_acts.specs.declared.advancing.Advanced.TheVariants as advances
 use Rattle.mq_acts.specs.Serving.{Serves}
-use Rattle.mq_turns.specs.declared.telling.Turn.{Turn}
-use Rattle.mq_turns.specs.declared.telling.Turn.TheVariants as turns
-use Rattle.mq_turns.specs.Turns.{TimeoutIs}
-use Rattle.mq_turns.specs.Unseen.{EndTurn}
-use Rattle.mq_turns.specs.Wired.{ChangedBy, IsStill, TurnIs, Untaken}
+use Rattle.mq_takes.specs.from_turn_parts.{Turn}
+use Rattle.mq_takes.specs.from_turn_parts.TurnVariants as turns
+use Rattle.mq_takes.specs.from_turn_parts.Turns.{TimeoutIs}
+use Rattle.mq_takes.specs.from_turn_parts.Unseen.{EndTurn}
+use Rattle.mq_takes.specs.from_turn_parts.Wired.{ChangedBy, IsStill, TurnIs, Untaken}
 use Rattle.mq_ruled.specs.Ends.{PipeTook, PipeWrote}
 use Rattle.mq_split.specs.Took.{EndState}
 use Rattle.mq_split.specs.Ends.{end_actor}

@@ -21,12 +21,12 @@ use Rattle.mq_spec_node.specs.Words.{by, is_script, items_of, stamp_after}
 use Rattle.mq_spec_network.specs.Cables.{is_popped}
 use Rattle.mq_spec_network.specs.Steps.{InPhase}
 use Rattle.mq_spec_network.specs.Tasks.{Trying}
-use Rattle.mq_events.specs.States.{NodeState, IsKept, IsServed, node_in, value_of}
-use Rattle.mq_events.specs.Events.{MayAct}
+use Rattle.mq_acts.specs.from_events.States.{NodeState, IsKept, IsServed, node_in, value_of}
+use Rattle.mq_acts.specs.from_events.Events.{MayAct}
 use Rattle.mq_acts.specs.Serving.{AreTurns, IsDone}
-use Rattle.mq_turns.specs.declared.telling.Turn.{Turn}
-use Rattle.mq_turns.specs.declared.telling.Turn.TheVariants as turns
-use Rattle.mq_turns.specs.Wired.{Offered, Popped}
+use Rattle.mq_takes.specs.from_turn_parts.{Turn}
+use Rattle.mq_takes.specs.from_turn_parts.TurnVariants as turns
+use Rattle.mq_takes.specs.from_turn_parts.Wired.{Offered, Popped}
 use Rattle.mq_ruled.specs.Ends.{PipeTook, PipeWrote}
 use Rattle.mq_split.specs.Facing.{Facing}
 use Rattle.mq_split.specs.Took.{EndState, Took, way}

@@ -7,11 +7,11 @@ use Rattle.mq_history.specs.declared.calls.Call.TheVariants as calls
 use Rattle.mq_spec_node.specs.Terms.{Actor, Call, Entry, ScriptLine}
 use Rattle.mq_spec_node.specs.Words.{Grows, deadline, line_call, wait_of}
 use Rattle.mq_progress.specs.Course.{Finished}
-use Rattle.mq_events.specs.States.{NodeState, value_of}
+use Rattle.mq_acts.specs.from_events.States.{NodeState, value_of}
 use Rattle.mq_acts.specs.Serving.{AreTurns, IsDone}
-use Rattle.mq_turns.specs.declared.telling.Turn.{Turn}
-use Rattle.mq_turns.specs.declared.telling.Turn.TheVariants as turns
-use Rattle.mq_turns.specs.Wired.{Offered, Popped}
+use Rattle.mq_takes.specs.from_turn_parts.{Turn}
+use Rattle.mq_takes.specs.from_turn_parts.TurnVariants as turns
+use Rattle.mq_takes.specs.from_turn_parts.Wired.{Offered, Popped}
 use Rattle.mq_wires.specs.Wires.{OffersNone}
 use Rattle.mq_ruled.specs.Ends.{PipeTook, PipeWrote}
 use Rattle.mq_split.specs.Took.{EndState}

@@ -8,7 +8,7 @@ use Rattle.mq_spec_network.specs.Story.{Mem}
 use Rattle.mq_spec_network.specs.Steps.{AllInPhase}
 use Rattle.mq_spec_network.specs.Tasks.{Trying}
 use Rattle.mq_progress.specs.Course.{Course, Stands}
-use Rattle.mq_events.specs.States.{NodeState, value_of}
+use Rattle.mq_acts.specs.from_events.States.{NodeState, value_of}
 use Rattle.mq_acts.specs.Advances.{IsTextLine}
 use Rattle.mq_acts.specs.Restarts.{StaysOwn}
 use Rattle.mq_acts.specs.Serving.{IsDone}

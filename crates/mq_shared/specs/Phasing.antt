@@ -8,8 +8,8 @@ use Rattle.mq_spec_node.specs.Words.{Grows, is_spent}
 use Rattle.mq_spec_network.specs.Steps.{AllInPhase}
 use Rattle.mq_spec_network.specs.Tasks.{Trying}
 use Rattle.mq_progress.specs.Course.{Course, Stands}
-use Rattle.mq_events.specs.States.{NodeState, IsKept, IsServed, value_of}
-use Rattle.mq_events.specs.Events.{MayAct}
+use Rattle.mq_acts.specs.from_events.States.{NodeState, IsKept, IsServed, value_of}
+use Rattle.mq_acts.specs.from_events.Events.{MayAct}
 use Rattle.mq_acts.specs.Advances.{IsTextLine}
 use Rattle.mq_acts.specs.Restarts.{StaysOwn}
 use Rattle.mq_nodes.specs.declared.nodes.Stop.{Stop}

@@ -5,7 +5,7 @@ use Rattle.mq_history.specs.declared.scenario.Scenario.{Scenario}
 use Rattle.mq_spec_node.specs.Terms.{ScriptLine, ScriptPart}
 use Rattle.mq_spec_node.specs.Words.{fresh}
 use Rattle.mq_progress.specs.Course.{Course, until_in}
-use Rattle.mq_events.specs.States.{NodeState}
+use Rattle.mq_acts.specs.from_events.States.{NodeState}
 use Rattle.mq_shared.specs.Held.{Begun, ScriptState}
 use Rattle.mq_split.specs.Parting.{ends_named}
 use Rattle.mq_shared.specs.Phasing.{among, tries_in}

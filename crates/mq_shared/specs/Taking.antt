@@ -4,7 +4,7 @@ use Rattle.mq_history.specs.Scenarios.{IsScenario}
 use Rattle.mq_history.specs.declared.scenario.Scenario.{Scenario}
 use Rattle.mq_spec_node.specs.Terms.{Entry, ScriptPart}
 use Rattle.mq_progress.specs.Course.{Course}
-use Rattle.mq_events.specs.States.{NodeState, IsKept}
+use Rattle.mq_acts.specs.from_events.States.{NodeState, IsKept}
 use Rattle.mq_acts.specs.Restarts.{StaysOwn}
 use Rattle.mq_acts.specs.Serving.{IsDone}
 use Rattle.mq_split.specs.Took.{EndState}

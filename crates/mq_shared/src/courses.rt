@@ -10,9 +10,9 @@ ghost use Rattle.mq_shared.specs.Sharing.{is_here, kept_course, kept_if, last_if
 ghost use Rattle.mq_shared.specs.Taking.{Begins, CoursesAt, RowsWait};
 
 use crate::held::HeldScript;
+use mq_acts::below::Node;
 use mq_base::{Items, NoMemory};
 use mq_disk::Disk;
-use mq_events::Node;
 use mq_history::{Scenario, ScriptPart};
 use mq_progress::Progress;
 use std::alloc::Global;

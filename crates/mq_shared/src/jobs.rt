@@ -4,7 +4,7 @@ use crate::trying::Tried;
 use mq_base::NoMemory;
 use mq_disk::Disk;
 use mq_gate::{Gate, Point};
-use mq_turns::Turn;
+use mq_takes::below::Turn;
 use std::sync::atomic::{AtomicU64, Ordering};
 use std::sync::{Mutex, MutexGuard, Wait};
 use std::thread;

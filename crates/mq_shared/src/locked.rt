@@ -1,16 +1,16 @@
 //! What lies under a lock of a phase: a node with its ends and its scripts, and what its type keeps of them.
 ghost use Rattle.std.specs.Prelude.{◌≡◌, ◌<◌, ◌^◌, IfSome, false, length, slice_get};
 ghost use Rattle.std.specs.Bool.{OnTrue};
-ghost use Rattle.mq_events.specs.Events.{MayAct};
+ghost use Rattle.mq_acts.specs.from_events.Events.{MayAct};
 ghost use Rattle.mq_shared.specs.Held.{Kept, KeptOwn};
 
 use crate::held::HeldScript;
 use crate::trying::{Tried, try_line, try_timeout, try_turn};
+use mq_acts::below::Node;
 use mq_base::{Items, NoMemory};
 use mq_disk::Disk;
-use mq_events::Node;
 use mq_split::HeldEnd;
-use mq_turns::Turn;
+use mq_takes::below::Turn;
 use std::marker::{Brand, Model, PhantomData};
 use std::sync::Wait;
 

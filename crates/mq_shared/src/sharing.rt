@@ -1,7 +1,7 @@
 //! Nodes go under their locks with their ends and scripts, and come out of them.
 ghost use Rattle.std.specs.Prelude.{◌≡◌, ◌≤◌, ◌<◌, ◌+◌, ◌∷◌, ◌++◌, ℕ, [], Some, false, length, slice_get, vec_capacity, vec_len};
 ghost use Rattle.mq_spec_node.specs.Terms as terms;
-ghost use Rattle.mq_events.specs.States.{IsKept};
+ghost use Rattle.mq_acts.specs.from_events.States.{IsKept};
 ghost use Rattle.mq_split.specs.Ends.{AreFree, EndsApart};
 ghost use Rattle.mq_shared.specs.Held.{Kept, KeptOwn, cables_begun};
 ghost use Rattle.mq_split.specs.Parting.{AllFree, AreEndsAt, ends_named, none_since};
@@ -12,9 +12,9 @@ use crate::courses::{ScriptRow, hold_scripts, put_courses};
 use crate::held::HeldScript;
 use crate::jobs::{Job, Work};
 use crate::locked::{Locked, PhaseName, Unlocked};
+use mq_acts::below::Node;
 use mq_base::Items;
 use mq_disk::Disk;
-use mq_events::Node;
 use mq_gate::Point;
 use mq_history::{Actor, Call, Entry, Scenario};
 use mq_progress::Progress;

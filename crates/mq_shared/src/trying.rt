@@ -1,28 +1,29 @@
 //! A try of a script's line, a turn of an end and a timeout, at a node, with the trigger turns behind it.
 ghost use Rattle.std.specs.Prelude.{◌≡◌, ◌≤◌, ◌<◌, ◌^◌, ℕ, [], IfSome, None, OnOk, false, length, slice_get};
-ghost use Rattle.mq_events.specs.States.{IsServed};
-ghost use Rattle.mq_events.specs.Events.{MayAct};
+ghost use Rattle.mq_acts.specs.from_events.States.{IsServed};
+ghost use Rattle.mq_acts.specs.from_events.Events.{MayAct};
 ghost use Rattle.mq_acts.specs.Advances.{IsTextLine};
 ghost use Rattle.mq_acts.specs.Restarts.{StaysOwn};
-ghost use Rattle.mq_turns.specs.Unseen.{EndTurn, IsUnseen, turn_deed};
+ghost use Rattle.mq_takes.specs.from_turn_parts.Unseen.{EndTurn, IsUnseen, turn_deed};
 ghost use Rattle.mq_ruled.specs.Ends.{PipeEmpty, PipeEnds, PipeFull, PipeTook, PipeWrote};
 ghost use Rattle.mq_shared.specs.Events.{LineTried, SameEnd, TimeTried, TurnTried};
 ghost use Rattle.mq_split.specs.Ends.{end_actor};
 ghost use Rattle.mq_shared.specs.Held.{script_with};
 
 use crate::held::HeldScript;
+use mq_acts::below::Node;
 use mq_acts::{Advanced, advance, serve};
 use mq_base::NoMemory;
 use mq_cable::{Offers, Wire};
 use mq_disk::Disk;
-use mq_events::Node;
 use mq_history::ScriptPart;
-use mq_lines::{deadline_of, wait_of};
 use mq_progress::Progress;
+use mq_progress::below::{deadline_of, wait_of};
 use mq_ruled::Ruled;
 use mq_split::HeldEnd;
+use mq_takes::below::{Turn, timeout};
 use mq_takes::receiver_turn;
-use mq_turns::{Turn, sender_turn, timeout};
+use mq_turns::sender_turn;
 use std::sync::Wait;
 
 /// What a try of a script's next line came to.

@@ -1,4 +1,3 @@
-pub mod KeyLaws
 pub mod StandLaws
 pub mod DistinctLaws
 pub mod FindLaws

@@ -8,7 +8,6 @@ use Rattle.std.specs.Map.{keys_of, lookup, remove_entry, set_value}
 use Rattle.std.specs.BTreeMap.{is_at, insert_entry}
 use Rattle.std.specs.Str.{bytes_eq}
 use Rattle.indexmap.specs.IndexMap.{insert_entry as named_entry}
-use Rattle.std.proofs.lemmas.Bool.Decides.{nat_tests}
 use Rattle.std.proofs.lemmas.Map.{keys-set_value}
 use Rattle.std.proofs.lemmas.Map.Keys.{IsDistinct-head, IsDistinct-tail}
 use Rattle.mq_message.specs.declared.message.Ident.{Ident}
@@ -16,7 +15,7 @@ use Rattle.mq_message.specs.declared.message.Message.{Message}
 use Rattle.mq_message.specs.declared.place.Holder.{Holder}
 use Rattle.mq_queue.specs.declared.row.Row.{Row}
 use Rattle.mq_queue.specs.Rows.{same_ident, has_ident}
-use Rattle.mq_queue.proofs.Edits.{same_is}
+use Rattle.mq_queue.proofs.Edits.{same_is, same_self, same_turned}
 use Rattle.mq_calls.specs.declared.image.Shelf.{Shelf}
 use Rattle.mq_calls.specs.Changes.{new_row}
 use Rattle.mq_calls.specs.Images.{uncounted_message}
@@ -184,15 +183,6 @@ queue_gone q (r ∷ rs) named = by (queue_gone q rs (IsDistinct-tail bytes_eq r.
 
 -- ---- a row comes
 
-same_turned : (a b : Ident) → same_ident b a ≡ false → same_ident a b ≡ false
-same_turned a b e = by (same_ident a b) refl
-  where
-    by : (c : Bool) → same_ident a b ≡ c → c ≡ false
-    by false h = refl
-    by true h =
-        let is = same_is a b h in
-        absurd (cc (sym (subst (λ (x : Ident). same_ident b x ≡ true) (sym is) (subst (λ (x : Ident). same_ident x b ≡ true) is h)) ∙ e))
-
 module _ (spot : Ident → Option Spot) (next : ℕ) where
   -- the notes of other idents stay
   pub racks_same : (now : Ident → Option Spot) → ((other : Ident) → now other ≡ spot other) → (rs : List (List ℕ × List (Stand × Row))) → AreRacks spot next rs → AreRacks now next rs
@@ -204,7 +194,7 @@ module _ (spot : Ident → Option Spot) (next : ℕ) where
   module _ (now : Ident → Option Spot) (ident : Ident) (sp : Spot) (noted : (other : Ident) → now other ≡ (if same_ident ident other then Some sp else spot other)) (more : ℕ) (greater : next ≤ more) where
     row_noted : (name : List ℕ) (e : Stand × Row) → has_ident ident e.1 ≡ false → Stands spot next name e → Stands now more name e
     row_noted name e lacks s = record {
-      noted = noted e.1.message.ident ∙ ap (λ (b : Bool). if b then Some sp else spot e.1.message.ident) (same_turned ident e.1.message.ident lacks) ∙ s.noted;
+      noted = noted e.1.message.ident ∙ ap (λ (b : Bool). if b then Some sp else spot e.1.message.ident) (same_turned ident e.1.message.ident ∙ lacks) ∙ s.noted;
       lane = s.lane;
       came = omega (arith, s.came, greater);
     }
@@ -252,9 +242,6 @@ module _ (spot : Ident → Option Spot) (next : ℕ) (q : List ℕ) (k : Stand) 
     named = named;
   }
 
-pub ident_same : (a : Ident) → same_ident a a ≡ true
-ident_same a = grind (arith, nat_tests)
-
 -- the entries are the same
 pub racks_as : (spot : Ident → Option Spot) (next : ℕ) (rs now : List (List ℕ × List (Stand × Row))) → AreRacks spot next rs → now ≡ rs → AreRacks spot next now
 racks_as spot next rs now were is = subst (AreRacks spot next) (sym is) were
@@ -263,7 +250,7 @@ pub new_stands : (now spot : Ident → Option Spot) (next more lane : ℕ) (q : 
     → ((other : Ident) → now other ≡ (if same_ident m.ident other then Some (record { queue = q; stand = record { lane = lane; arrival = next } }) else spot other)) → next < more
     → Stands now more q (record { lane = lane; arrival = next }, new_row lane 0 (uncounted_message m))
 new_stands now spot next more lane q m noted less = record {
-  noted = noted m.ident ∙ ap (λ (b : Bool). if b then Some (record { queue = q; stand = record { lane = lane; arrival = next } }) else spot m.ident) (ident_same m.ident);
+  noted = noted m.ident ∙ ap (λ (b : Bool). if b then Some (record { queue = q; stand = record { lane = lane; arrival = next } }) else spot m.ident) (same_self m.ident);
   lane = refl;
   came = less;
 }

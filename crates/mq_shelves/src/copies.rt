@@ -7,27 +7,9 @@ use crate::rack::Stand;
 use crate::slots::Slot;
 use mq_base::{Items, NoMemory};
 use mq_calls::Shelf;
-use mq_message::{Bytes, Message};
 use mq_queue::Row;
 use std::alloc::Global;
 use std::collections::BTreeMap;
-
-fn copy_row(alloc: Global, row: &Row) -> Result<Row, NoMemory>
-    ensures { IfOk result (λ copy. copy ≡ row.now) }
-{
-    let body = Bytes::from_slice(alloc, row.message.body.as_slice())?;
-    Ok(Row {
-        place: row.place,
-        message: Message {
-            ident: row.message.ident,
-            md: row.message.md,
-            route: row.message.route,
-            deadline: row.message.deadline,
-            body,
-        },
-        by: row.by,
-    })
-}
 
 /// Copies of the rows of one queue, in order.
 pub fn copy_rows(alloc: Global, rows: &BTreeMap<Stand, Row>) -> Result<Items<Row>, NoMemory>
@@ -35,7 +17,7 @@ pub fn copy_rows(alloc: Global, rows: &BTreeMap<Stand, Row>) -> Result<Items<Row
 {
     let mut copies = Items::new(alloc);
     for (_, row) in rows.iter() {
-        copies.push(copy_row(alloc, row)?)?;
+        copies.push(row.try_clone(alloc)?)?;
     }
     Ok(copies)
 }

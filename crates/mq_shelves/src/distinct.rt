@@ -5,17 +5,16 @@ ghost use Rattle.mq_queue.specs.Rows.{same_ident};
 ghost use Rattle.mq_spec_log.specs.Applies.{are_distinct};
 ghost use Rattle.mq_shelves.specs.Spots.{is_met};
 
-use crate::spots::{IdentKey, key_of};
 use indexmap::IndexMap;
 use mq_base::NoMemory;
 use mq_message::Ident;
 use std::alloc::Global;
 
 /// Whether an ident was noted.
-pub fn is_met(met: &IndexMap<IdentKey, bool>, ident: &Ident) -> bool
+pub fn is_met(met: &IndexMap<Ident, bool>, ident: &Ident) -> bool
     ensures { result ≡ is_met met.now ident.now }
 {
-    met.get(&key_of(ident)).is_some()
+    met.get(ident).is_some()
 }
 
 /// Notes an ident; the answer says whether it wasn't there.
@@ -23,12 +22,12 @@ pub fn is_met(met: &IndexMap<IdentKey, bool>, ident: &Ident) -> bool
 /// # Errors
 ///
 /// No memory; nothing changes.
-pub fn meet(met: &mut IndexMap<IdentKey, bool>, ident: &Ident) -> Result<bool, NoMemory>
+pub fn meet(met: &mut IndexMap<Ident, bool>, ident: &Ident) -> Result<bool, NoMemory>
     ensures first { IfOk result (λ first. first ≡ not (is_met met.old ident.now)) }
     ensures err { OnErr result ((other : Ident) → is_met met.new other ≡ is_met met.old other) }
     ensures now { OnOk result ((other : Ident) → is_met met.new other ≡ (same_ident ident.now other || is_met met.old other)) }
 {
-    let before = met.insert(key_of(ident), true)?;
+    let before = met.insert(*ident, true)?;
     Ok(!before.is_some())
 }
 
@@ -40,7 +39,7 @@ pub fn meet(met: &mut IndexMap<IdentKey, bool>, ident: &Ident) -> Result<bool, N
 pub fn are_distinct(alloc: Global, idents: &[Ident]) -> Result<bool, NoMemory>
     ensures { IfOk result (λ distinct. distinct ≡ are_distinct idents.now) }
 {
-    let mut met: IndexMap<IdentKey, bool> = IndexMap::new(alloc);
+    let mut met: IndexMap<Ident, bool> = IndexMap::new(alloc);
     for ident in idents {
         if !meet(&mut met, ident)? {
             return Ok(false);

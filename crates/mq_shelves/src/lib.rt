@@ -12,4 +12,3 @@ mod spots;
 
 pub use distinct::{are_distinct, is_met, meet};
 pub use shelves::Shelves;
-pub use spots::{IdentKey, key_of};

@@ -4,7 +4,7 @@ ghost use Rattle.mq_shelves.specs.Racks.{row_at, standing};
 ghost use Rattle.mq_shelves.specs.Spots.{spot_of};
 
 use crate::slots::Racks;
-use crate::spots::{IdentKey, Spot, spot_of};
+use crate::spots::{Spot, spot_of};
 use indexmap::IndexMap;
 use mq_message::Ident;
 use mq_queue::Row;
@@ -20,7 +20,7 @@ pub fn row_at<'a>(racks: &'a Racks, spot: &Spot) -> Option<&'a Row>
 }
 
 /// Where the row with an ident stands.
-pub fn standing(racks: &Racks, spots: &IndexMap<IdentKey, Spot>, ident: &Ident) -> Option<Spot>
+pub fn standing(racks: &Racks, spots: &IndexMap<Ident, Spot>, ident: &Ident) -> Option<Spot>
     ensures { result ≡ standing racks.now ident.now (spot_of spots.now ident.now) }
 {
     let spot = spot_of(spots, ident)?;

@@ -15,12 +15,12 @@ use crate::copies::copy_shelves;
 use crate::rack::{Rack, Stand};
 use crate::racks::{row_at, standing};
 use crate::slots::Racks;
-use crate::spots::{IdentKey, Spot, note_spot, spot_of};
+use crate::spots::{Spot, note_spot, spot_of};
 use indexmap::IndexMap;
 use mq_base::{ChName, Items, NoMemory, QName};
 use mq_calls::Shelf;
 use mq_message::{Holder, Ident, Message, Place};
-use mq_queue::Row;
+use mq_queue::{Row, is_free};
 use std::alloc::Global;
 use std::marker::Model;
 
@@ -39,7 +39,7 @@ pub struct Rows {
     // In the order in which the queues came.
     racks: Racks,
     // Where the row of each ident stands. Some idents may have none any more.
-    spots: IndexMap<IdentKey, Spot>,
+    spots: IndexMap<Ident, Spot>,
     // How many rows came.
     next: u64,
 }
@@ -306,15 +306,6 @@ impl Rows {
     {
         self.remove(&message.ident);
         self.put(alloc, queue, lane, message)
-    }
-}
-
-fn is_free(row: &Row) -> bool
-    ensures { result ≡ is_free row.now }
-{
-    match row.by {
-        None => true,
-        Some(_) => false,
     }
 }
 

@@ -2,20 +2,12 @@
 ghost use Rattle.std.specs.Prelude.{◌≡◌, Some, if◌then◌else◌, OnOk, OnErr};
 ghost use Rattle.mq_message.specs.declared.message.Ident.{Ident};
 ghost use Rattle.mq_queue.specs.Rows.{same_ident};
-ghost use Rattle.mq_shelves.specs.Spots.{key_of, spot_of};
+ghost use Rattle.mq_shelves.specs.Spots.{spot_of};
 
 use crate::rack::Stand;
 use indexmap::IndexMap;
 use mq_base::{NoMemory, QName};
 use mq_message::Ident;
-
-/// An ident as a key of a map.
-#[derive(Clone, Copy, PartialEq, Eq, Hash)]
-pub struct IdentKey {
-    manager: u8,
-    incarnation: u64,
-    number: u64,
-}
 
 /// A place on a queue.
 #[derive(Clone, Copy)]
@@ -26,33 +18,22 @@ pub struct Spot {
     pub stand: Stand,
 }
 
-/// The key of an ident.
-pub fn key_of(ident: &Ident) -> IdentKey
-    ensures { result ≡ key_of ident.now }
-{
-    IdentKey {
-        manager: ident.manager,
-        incarnation: ident.incarnation,
-        number: ident.number,
-    }
-}
-
 /// Where an ident was noted to stand.
-pub fn spot_of(spots: &IndexMap<IdentKey, Spot>, ident: &Ident) -> Option<Spot>
+pub fn spot_of(spots: &IndexMap<Ident, Spot>, ident: &Ident) -> Option<Spot>
     ensures { result ≡ spot_of spots.now ident.now }
 {
-    spots.get(&key_of(ident)).copied()
+    spots.get(ident).copied()
 }
 
 /// Notes where an ident stands.
 pub fn note_spot(
-    spots: &mut IndexMap<IdentKey, Spot>,
+    spots: &mut IndexMap<Ident, Spot>,
     ident: &Ident,
     spot: Spot,
 ) -> Result<(), NoMemory>
     ensures ok { OnOk result ((other : Ident) → spot_of spots.new other ≡ (if same_ident ident.now other then Some spot else spot_of spots.old other)) }
     ensures err { OnErr result ((other : Ident) → spot_of spots.new other ≡ spot_of spots.old other) }
 {
-    spots.insert(key_of(ident), spot)?;
+    spots.insert(*ident, spot)?;
     Ok(())
 }

@@ -4,8 +4,8 @@ use Rattle.std.specs.Prelude.{Option, Some, None, find, is_some, not, filter, ma
 use Rattle.std.specs.List.{AllByRecursion, list_any}
 use Rattle.std.specs.Str.{bytes_eq}
 use Rattle.mq_base.specs.Members.{Mem}
-use Rattle.mq_calls.specs.Words.{comes_before, set_named}
-use Rattle.mq_calls.specs.declared.state.ReceiverSide.{ReceiverSide}
+use Rattle.mq_unit.specs.from_calls.Words.{comes_before, set_named}
+use Rattle.mq_unit.specs.from_calls.{ReceiverSide}
 use Rattle.mq_sides.specs.declared.bonds.Bond.{Bond}
 use Rattle.mq_sides.specs.Bonds.{KeepsSeats, bound_of, has_seat, seats_of, unbound_at}
 use Rattle.mq_sides.specs.Places.{AreByName}

@@ -1,8 +1,8 @@
 -- Room that is kept is enough, where less is needed.
 use Rattle.std.proofs.Common.{◌≤◌, Bool, true, false, cond, List, [], ◌∷◌, length, arith}
 use Rattle.std.specs.Prelude.{Option, Some, None, filter, not}
-use Rattle.mq_message.specs.declared.message.Ident.{Ident}
-use Rattle.mq_calls.specs.Words.{InDoubt, same_ident, less_ident}
+use Rattle.mq_unit.specs.from_message.{Ident}
+use Rattle.mq_unit.specs.from_calls.Words.{InDoubt, same_ident, less_ident}
 use Rattle.mq_sides.specs.Kept.{told_need}
 
 fewer : {A : Type 0} (p : A → Bool) (xs : List A) → length (filter p xs) ≤ length xs

@@ -9,7 +9,7 @@ use Rattle.std.proofs.lemmas.Cmp.{nat_list_cmp_total}
 use Rattle.std.proofs.lemmas.Map.Text.{is_eq-slice_cmp}
 use Rattle.std.proofs.lemmas.Slice.Eq.{bytes_eq-Decides}
 use Rattle.mq_base.specs.Members.{Mem}
-use Rattle.mq_calls.specs.Words.{comes_before, set_named}
+use Rattle.mq_unit.specs.from_calls.Words.{comes_before, set_named}
 use Rattle.mq_sides.specs.Places.{place_in, is_of, of_name, standing, AreByName}
 
 is_less : (o : Ordering) → is_lt o ≡ true → o ≡ Less

@@ -3,11 +3,8 @@ use Rattle.std.proofs.Common.{◌≡◌, ℕ, zero, suc, ◌+◌, ◌<◌, ◌�
 use Rattle.std.specs.Prelude.{Some, None, find, drop, slice_get, slice_set, ◌||◌, option_map}
 use Rattle.std.specs.List.{insert, remove}
 use Rattle.std.specs.Str.{bytes_eq}
-use Rattle.mq_calls.specs.Words.{comes_before, set_named, sender_in, receiver_in, seizure_of, batch_of}
-use Rattle.mq_calls.specs.declared.state.SenderSide.{SenderSide}
-use Rattle.mq_calls.specs.declared.state.ReceiverSide.{ReceiverSide}
-use Rattle.mq_calls.specs.declared.state.Seizure.{Seizure}
-use Rattle.mq_calls.specs.declared.state.Batch.{Batch}
+use Rattle.mq_unit.specs.from_calls.Words.{comes_before, set_named, sender_in, receiver_in, seizure_of, batch_of}
+use Rattle.mq_unit.specs.from_calls.{Batch, ReceiverSide, Seizure, SenderSide}
 use Rattle.mq_sides.specs.Places.{is_there, place_in, is_of, CanUndo}
 
 true_false : true ≡ false → ⊥

@@ -3,7 +3,7 @@ use Rattle.std.proofs.Common.{◌≡◌, ℕ, Bool, true, false, cond, refl, suc
 use Rattle.std.specs.Prelude.{◌||◌, Option, Some, None, slice_get, sum_by}
 use Rattle.std.specs.Str.{bytes_eq}
 use Rattle.std.proofs.lemmas.List.Sums.{sum_by-cons}
-use Rattle.mq_calls.specs.Words.{comes_before, set_named}
+use Rattle.mq_unit.specs.from_calls.Words.{comes_before, set_named}
 use Rattle.mq_sides.specs.Places.{place_in, counted, of_name, standing, IsSummed}
 
 -- what is set by its name counts for what it takes the place of

@@ -1,6 +1,6 @@
 -- Room that is kept with what ends of channels have.
 use Rattle.std.specs.Prelude.{ℕ, ◌+◌, Bool, true, false, length, Option, Some, None}
-use Rattle.mq_calls.specs.Words.{InDoubt}
+use Rattle.mq_unit.specs.from_calls.Words.{InDoubt}
 
 -- how much is told of a unit in doubt that is settled, at most: each of its rows, and the settlement
 abbrev pub told_need : Option InDoubt → ℕ

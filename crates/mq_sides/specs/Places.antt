@@ -3,7 +3,7 @@ use Rattle.std.specs.Prelude.{◌≡◌, ℕ, ◌+◌, ◌<◌, suc, sum_by, len
 use Rattle.std.specs.List.{remove}
 use Rattle.std.specs.Str.{bytes_eq}
 use Rattle.mq_base.specs.Members.{Chain}
-use Rattle.mq_calls.specs.Words.{comes_before}
+use Rattle.mq_unit.specs.from_calls.Words.{comes_before}
 
 -- it has the name, or stands behind it
 abbrev pub is_there : {A : Type 0} → (A → List ℕ) → List ℕ → A → Bool

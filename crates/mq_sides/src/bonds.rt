@@ -2,7 +2,7 @@
 ghost use Rattle.std.specs.Prelude.{◌≡◌, ◌<◌, ◌&&◌, ℕ, List, [], true, false, filter, length, not, OnOk, OnErr};
 ghost use Rattle.std.specs.List.{list_any};
 ghost use Rattle.std.specs.Str.{bytes_eq};
-ghost use Rattle.mq_calls.specs.Words.{set_named};
+ghost use Rattle.mq_unit.specs.from_calls.Words.{set_named};
 ghost use Rattle.mq_sides.specs.Bonds.{KeepsSeats, bound_of, has_seat, seats_of, unbound_at};
 
 use crate::sides::{OfChannel, set_side, side_of};

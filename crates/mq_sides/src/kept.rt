@@ -1,14 +1,12 @@
 //! What is kept by channel with the room that its end needs.
 ghost use Rattle.std.specs.Prelude.{◌≡◌, ◌≤◌, [], true, None, length, not, filter, IfOk, IfSome};
-ghost use Rattle.mq_message.specs.declared.message.Ident.{Ident};
-ghost use Rattle.mq_calls.specs.Words.{same_ident, less_ident, off_list};
+ghost use Rattle.mq_unit.specs.from_message.{Ident};
+ghost use Rattle.mq_unit.specs.from_calls.Words.{same_ident, less_ident, off_list};
 ghost use Rattle.mq_sides.specs.Kept.{closed_need, told_need};
 
 use mq_base::{Items, NoMemory};
-use mq_calls::{Batch, ReceiverSide, SenderSide};
-use mq_message::Ident;
-use mq_sync::InDoubt;
 use mq_unit::Effects;
+use mq_unit::below::{Batch, Ident, InDoubt, ReceiverSide, SenderSide};
 use std::alloc::Global;
 use std::marker::Model;
 
@@ -23,7 +21,7 @@ pub struct KeptBatch {
 
 impl Model for KeptBatch {
     ghost use Rattle.std.specs.Prelude.{◌≡◌, ◌≤◌, [], length};
-    ghost use Rattle.mq_calls.specs.declared.state.Batch.{Batch};
+    ghost use Rattle.mq_unit.specs.from_calls.{Batch};
 
     ghost Value = { Batch };
 
@@ -77,7 +75,7 @@ pub struct KeptReceiver {
 
 impl Model for KeptReceiver {
     ghost use Rattle.std.specs.Prelude.{◌≡◌, ◌≤◌, []};
-    ghost use Rattle.mq_calls.specs.declared.state.ReceiverSide.{ReceiverSide};
+    ghost use Rattle.mq_unit.specs.from_calls.{ReceiverSide};
     ghost use Rattle.mq_sides.specs.Kept.{closed_need};
 
     ghost Value = { ReceiverSide };
@@ -149,7 +147,7 @@ pub struct KeptSender {
 
 impl Model for KeptSender {
     ghost use Rattle.std.specs.Prelude.{◌≡◌, ◌≤◌, []};
-    ghost use Rattle.mq_calls.specs.declared.state.SenderSide.{SenderSide};
+    ghost use Rattle.mq_unit.specs.from_calls.{SenderSide};
     ghost use Rattle.mq_sides.specs.Kept.{told_need};
 
     ghost Value = { SenderSide };

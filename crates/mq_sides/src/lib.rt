@@ -1,6 +1,7 @@
 //! What is kept by channel: lists in the order of the channels' names, one entry a channel.
 #![tactic(auto)]
 
+pub mod below;
 mod bonds;
 mod kept;
 mod named;

@@ -1,12 +1,11 @@
 //! What is kept for a channel, list by list.
 ghost use Rattle.std.specs.Prelude.{◌≡◌, option_copied, IfOk};
-ghost use Rattle.mq_calls.specs.Words.{batch_of, receiver_in, receiver_or, sender_or, seizure_of, sender_in};
+ghost use Rattle.mq_unit.specs.from_calls.Words.{batch_of, receiver_in, receiver_or, sender_or, seizure_of, sender_in};
 
 use crate::kept::{KeptBatch, KeptReceiver, KeptSender};
 use crate::sides::side_of;
 use mq_base::{ChName, Items, NoMemory, QName};
-use mq_calls::{Batch, Seizure};
-use mq_sync::{InDoubt, ReceiverData, SenderData, Unit};
+use mq_unit::below::{Batch, ReceiverData, Seizure, SenderData, Unit, copy_doubt};
 use std::alloc::Global;
 
 /// What the sender of a channel has hardened.
@@ -47,23 +46,6 @@ pub fn batch_of<'a>(batches: &'a Items<KeptBatch>, channel: &ChName) -> Option<&
     match side_of(batches, channel) {
         None => None,
         Some(kept) => Some(kept.batch()),
-    }
-}
-
-fn copy_doubt(alloc: Global, doubt: &Option<InDoubt>) -> Result<Option<InDoubt>, NoMemory>
-    ensures { IfOk result (λ d. d ≡ doubt.now) }
-{
-    match doubt {
-        None => Ok(None),
-        Some(doubt) => {
-            let idents = Items::from_slice(alloc, doubt.idents.as_slice())?;
-            Ok(Some(InDoubt {
-                unit: doubt.unit,
-                queue: doubt.queue,
-                idents,
-                last: doubt.last,
-            }))
-        }
     }
 }
 

@@ -2,12 +2,12 @@
 ghost use Rattle.std.specs.Prelude.{◌≡◌, ℕ, List, find, filter, not, option_copied, slice_get, None, length, ◌<◌, ◌≤◌, IfOk, OnOk, OnErr};
 ghost use Rattle.std.specs.List.{position};
 ghost use Rattle.std.specs.Str.{bytes_eq};
-ghost use Rattle.mq_calls.specs.Words.{comes_before, set_named};
+ghost use Rattle.mq_unit.specs.from_calls.Words.{comes_before, set_named};
 ghost use Rattle.mq_sides.specs.Places.{is_of, is_there, place_in, AreByName, CanUndo, standing, undone};
 
 use crate::kept::{KeptBatch, KeptReceiver, KeptSender};
 use mq_base::{ChName, Items, NoMemory};
-use mq_calls::{ReceiverSide, Seizure, SenderSide};
+use mq_unit::below::{ReceiverSide, Seizure, SenderSide};
 use std::alloc::Global;
 
 /// What is kept for one channel.

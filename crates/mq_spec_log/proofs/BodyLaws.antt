@@ -1,16 +1,15 @@
 -- Bodies of a log, one after another.
 use Rattle.std.proofs.Common.{◌≡◌, ℕ, ◌+◌, Bool, true, false, cond, List, [], ◌∷◌, ◌++◌, length, Option, Some, None, Result, Ok, Err, refl, sym, ap, ◌∙◌}
 use Rattle.std.proofs.lemmas.List.{append-nil}
-use Rattle.mq_frame.specs.declared.fault.Miss.{Miss}
-use Rattle.mq_calls.specs.declared.records.LogRecord.{LogRecord}
+use Rattle.mq_record.specs.from_frame.{Miss}
+use Rattle.mq_record.specs.from_calls.{Image, LogRecord}
 use Rattle.mq_record.specs.declared.record.WrittenRecord.{WrittenRecord}
 use Rattle.mq_record.specs.declared.record.WrittenRecord.TheVariants as written
 use Rattle.mq_record.specs.Records.{IsRecord, IsOther, record_bytes}
 use Rattle.mq_record.specs.Reading.{record_at}
 use Rattle.mq_record.proofs.KindLaws.{record_again}
 use Rattle.mq_log.specs.Bodies.{frame}
-use Rattle.mq_calls.specs.State.{Given}
-use Rattle.mq_calls.specs.declared.image.Image.{Image}
+use Rattle.mq_record.specs.from_calls.State.{Given}
 use Rattle.mq_spec_log.specs.Applies.{Start, applies}
 use Rattle.mq_spec_log.specs.Records.{doing}
 use Rattle.mq_spec_log.specs.Bodies.{meaning_of, record_of, behind, or_place, image_from, begins, empty_image, image}

@@ -2,10 +2,9 @@
 use Rattle.std.specs.Prelude.{ℕ, ◌==◌, ◌+◌, ◌^◌, nat_lt, nat_le, Bool, true, false, not, ◌&&◌, ◌||◌, List, [], ◌∷◌, ◌++◌, if◌then◌else◌, Option, Some, None, is_some, map}
 use Rattle.std.specs.List.{list_any, list_all}
 use Rattle.std.specs.Str.{bytes_eq}
-use Rattle.mq_message.specs.declared.message.Ident.{Ident}
-use Rattle.mq_message.specs.declared.message.Message.{Message}
-use Rattle.mq_queue.specs.declared.row.Row.{Row}
-use Rattle.mq_queue.specs.Rows.{same_ident, has_ident, is_free}
+use Rattle.mq_record.specs.from_message.{Ident, Message}
+use Rattle.mq_record.specs.from_queue.{Row}
+use Rattle.mq_record.specs.from_queue.Rows.{same_ident, has_ident, is_free}
 use Rattle.mq_objects.specs.declared.object.LocalQueue.{LocalQueue}
 use Rattle.mq_objects.specs.declared.object.Object.{Object}
 use Rattle.mq_objects.specs.declared.object.Object.TheVariants as objects
@@ -21,13 +20,9 @@ use Rattle.mq_sync.specs.declared.data.SenderData.{SenderData}
 use Rattle.mq_sync.specs.declared.data.ReceiverData.{ReceiverData}
 use Rattle.mq_sync.specs.declared.data.End.{End}
 use Rattle.mq_sync.specs.declared.data.End.TheVariants as ends
-use Rattle.mq_calls.specs.declared.records.Add.{Add}
-use Rattle.mq_calls.specs.declared.records.Remove.{Remove}
-use Rattle.mq_calls.specs.declared.records.LogRecord.{LogRecord}
-use Rattle.mq_calls.specs.declared.records.LogRecord.TheVariants as records
-use Rattle.mq_calls.specs.State.{Given}
-use Rattle.mq_calls.specs.declared.image.Shelf.{Shelf}
-use Rattle.mq_calls.specs.declared.image.Image.{Image}
+use Rattle.mq_record.specs.from_calls.{Add, Image, LogRecord, Remove, Shelf}
+use Rattle.mq_record.specs.from_calls.LogRecordVariants as records
+use Rattle.mq_record.specs.from_calls.State.{Given}
 use Rattle.mq_spec_log.specs.Shelves.{shelf_in, added, removed, removed_all, sender_at, receiver_at}
 
 -- ---- rows

@@ -2,15 +2,14 @@
 use Rattle.std.specs.Prelude.{ℕ, ◌+◌, Bool, true, false, List, [], ◌∷◌, if◌then◌else◌, Option, Some, None, Result, Ok, Err, length}
 use Rattle.mq_objects.specs.declared.change.ObjectChange.{ObjectChange}
 use Rattle.mq_objects.specs.Defaults.{nothing_defined}
-use Rattle.mq_calls.specs.declared.records.LogRecord.{LogRecord}
-use Rattle.mq_calls.specs.declared.records.LogRecord.TheVariants as records
-use Rattle.mq_frame.specs.declared.fault.Miss.{Miss}
+use Rattle.mq_record.specs.from_calls.{Image, LogRecord}
+use Rattle.mq_record.specs.from_calls.LogRecordVariants as records
+use Rattle.mq_record.specs.from_frame.{Miss}
 use Rattle.mq_record.specs.declared.record.WrittenRecord.{WrittenRecord}
 use Rattle.mq_record.specs.declared.record.WrittenRecord.TheVariants as written
 use Rattle.mq_record.specs.Reading.{record_at}
 use Rattle.mq_log.specs.Bodies.{frame}
-use Rattle.mq_calls.specs.State.{Given}
-use Rattle.mq_calls.specs.declared.image.Image.{Image}
+use Rattle.mq_record.specs.from_calls.State.{Given}
 use Rattle.mq_spec_log.specs.Records.{doing}
 use Rattle.mq_spec_log.specs.Applies.{Start, applies}
 use Rattle.mq_spec_log.specs.Texts.{change_in}

@@ -3,3 +3,7 @@ pub mod Records
 pub mod Applies
 pub mod Texts
 pub mod Bodies
+pub mod from_calls
+pub mod from_record
+pub mod from_sc_apply
+pub mod from_sc_parse

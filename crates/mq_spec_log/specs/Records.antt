@@ -1,7 +1,7 @@
 -- What a record of the log does to an image.
 use Rattle.std.specs.Prelude.{ℕ, ◌==◌, max, Bool, true, false, not, ◌||◌, List, [], ◌∷◌, Option, Some, None, filter}
 use Rattle.std.specs.Str.{bytes_eq}
-use Rattle.mq_message.specs.declared.place.Holder.TheVariants as holders
+use Rattle.mq_record.specs.from_message.HolderVariants as holders
 use Rattle.mq_objects.specs.declared.object.LocalQueue.{LocalQueue}
 use Rattle.mq_objects.specs.declared.object.Object.TheVariants as objects
 use Rattle.mq_objects.specs.declared.object.Definitions.{Definitions}
@@ -13,11 +13,9 @@ use Rattle.mq_objects.specs.Changed.{changed}
 use Rattle.mq_sync.specs.declared.data.End.{End}
 use Rattle.mq_sync.specs.declared.data.End.TheVariants as ends
 use Rattle.mq_sync.specs.Settlement.{data_prepared, data_settled, settle_by}
-use Rattle.mq_calls.specs.declared.records.LogRecord.{LogRecord}
-use Rattle.mq_calls.specs.declared.records.LogRecord.TheVariants as records
-use Rattle.mq_calls.specs.State.Which.{Among, HeldBy}
-use Rattle.mq_calls.specs.declared.image.Shelf.{Shelf}
-use Rattle.mq_calls.specs.declared.image.Image.{Image}
+use Rattle.mq_record.specs.from_calls.{Image, LogRecord, Shelf}
+use Rattle.mq_record.specs.from_calls.LogRecordVariants as records
+use Rattle.mq_record.specs.from_calls.State.Which.{Among, HeldBy}
 use Rattle.mq_spec_log.specs.Shelves.{set_shelf, on_all, on_shelves, left, freed_rows, held_rows, added, removed, added_all, removed_all, sender_at, receiver_at, with_sender, with_receiver}
 
 -- a unit in doubt is settled: its rows go, or are free again

@@ -1,24 +1,19 @@
 -- What is ever done to an image: rows of its queues are placed, kept and retagged, and hardened data of channels are set.
 use Rattle.std.specs.Prelude.{ℕ, not, ◌&&◌, List, [], ◌∷◌, if◌then◌else◌, Option, Some, None}
 use Rattle.std.specs.Str.{bytes_eq}
-use Rattle.mq_message.specs.declared.message.Ident.{Ident}
-use Rattle.mq_message.specs.declared.message.Message.{Message}
-use Rattle.mq_message.specs.declared.place.Holder.{Holder}
-use Rattle.mq_queue.specs.declared.row.Row.{Row}
-use Rattle.mq_queue.specs.Rows.{has_ident, insert_row, keep, retag, is_free, held_by}
+use Rattle.mq_record.specs.from_message.{Holder, Ident, Message}
+use Rattle.mq_record.specs.from_queue.{Row}
+use Rattle.mq_record.specs.from_queue.Rows.{has_ident, insert_row, keep, retag, is_free, held_by}
 use Rattle.mq_objects.specs.Names.{local_of}
 use Rattle.mq_sync.specs.declared.data.SenderData.{SenderData}
 use Rattle.mq_sync.specs.declared.data.ReceiverData.{ReceiverData}
 use Rattle.mq_sync.specs.Settlement.{sender_or, receiver_or}
-use Rattle.mq_calls.specs.declared.records.Add.{Add}
-use Rattle.mq_calls.specs.declared.records.Remove.{Remove}
-use Rattle.mq_calls.specs.State.{Which}
-use Rattle.mq_calls.specs.State.Which.{Among}
-use Rattle.mq_calls.specs.Reads.{sender_in, receiver_in}
-use Rattle.mq_calls.specs.Changes.{selects, lane_of, new_row, retag_if, off_lists, set_sender, set_receiver}
-use Rattle.mq_calls.specs.Images.{uncounted_message}
-use Rattle.mq_calls.specs.declared.image.Shelf.{Shelf}
-use Rattle.mq_calls.specs.declared.image.Image.{Image}
+use Rattle.mq_record.specs.from_calls.{Add, Image, Remove, Shelf}
+use Rattle.mq_record.specs.from_calls.State.{Which}
+use Rattle.mq_record.specs.from_calls.State.Which.{Among}
+use Rattle.mq_record.specs.from_calls.Reads.{sender_in, receiver_in}
+use Rattle.mq_record.specs.from_calls.Changes.{selects, lane_of, new_row, retag_if, off_lists, set_sender, set_receiver}
+use Rattle.mq_record.specs.from_calls.Images.{uncounted_message}
 
 -- ---- shelves by name
 abbrev pub shelf_in : List ℕ → List Shelf → Shelf

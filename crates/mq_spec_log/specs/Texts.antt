@@ -12,9 +12,8 @@ use Rattle.mq_objects.specs.Attributes.{Attribute, attributes, manager_attribute
 use Rattle.mq_objects.specs.Defaults.{new_manager}
 use Rattle.mq_objects.specs.Settings.{set_all_manager}
 use Rattle.mq_sc_apply.specs.Planned.{defined_object}
-use Rattle.mq_sc_lex.specs.declared.token.Line.{Line}
-use Rattle.mq_sc_lex.specs.declared.fault.LexFault.{LexFault}
-use Rattle.mq_sc_lex.specs.Commands.{commands_of}
+use Rattle.mq_sc_parse.specs.from_sc_lex.{LexFault, Line}
+use Rattle.mq_sc_parse.specs.from_sc_lex.Commands.{commands_of}
 use Rattle.mq_sc_parse.specs.declared.command.Command.{Command}
 use Rattle.mq_sc_parse.specs.declared.command.Command.TheVariants as parsed
 use Rattle.mq_sc_parse.specs.declared.fault.ScFault.{ScFault}

@@ -1,11 +1,10 @@
 //! Laws of images.
 
 ghost use Rattle.std.specs.Prelude.{◌≡◌, ◌∷◌, [], ◌++◌, ℕ, List, true, Ok};
-ghost use Rattle.mq_calls.specs.declared.records.LogRecord.{LogRecord};
+ghost use Rattle.mq_record.specs.from_calls.{Image, LogRecord};
 ghost use Rattle.mq_record.specs.Records.{IsRecord, IsOther, record_bytes};
 ghost use Rattle.std.specs.Prelude.{Some};
-ghost use Rattle.mq_calls.specs.State.{Given};
-ghost use Rattle.mq_calls.specs.declared.image.Image.{Image};
+ghost use Rattle.mq_record.specs.from_calls.State.{Given};
 ghost use Rattle.mq_spec_log.specs.Applies.{Start, applies};
 ghost use Rattle.mq_spec_log.specs.Records.{doing};
 ghost use Rattle.mq_spec_log.specs.Bodies.{image, record_of};

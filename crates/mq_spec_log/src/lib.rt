@@ -2,6 +2,7 @@
 //! the bodies of a log.
 #![tactic(auto)]
 
+pub mod below;
 mod laws;
 
 pub use laws::bodies_are_read_one_after_another;

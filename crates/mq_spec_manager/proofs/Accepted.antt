@@ -1,21 +1,16 @@
 -- An accepted command changes the definitions as it would where nothing is in use: what is in use decides of refusals alone.
 use Rattle.std.specs.Prelude.{◌≡◌, ℕ, Bool, true, false, not, ◌&&◌, ◌||◌, List, [], ◌∷◌, Option, Some, None, Result, Ok, Err, refl}
 use Rattle.std.proofs.Common.{ap, ◌∙◌}
-use Rattle.mq_calls.specs.Words.{Object, ManagerAttributes, Definitions, Command}
-use Rattle.mq_calls.specs.declared.commands.Shown.{Shown}
-use Rattle.mq_calls.specs.declared.commands.ScRefusal.{ScRefusal}
-use Rattle.mq_objects.specs.declared.object.Object.TheVariants as objects
-use Rattle.mq_objects.specs.declared.setting.Keyword.{Keyword}
-use Rattle.mq_objects.specs.declared.command.Define.{Define}
-use Rattle.mq_objects.specs.declared.command.Alter.{Alter}
-use Rattle.mq_objects.specs.declared.command.Delete.{Delete}
-use Rattle.mq_objects.specs.declared.command.Display.{Display}
-use Rattle.mq_objects.specs.declared.command.Command.TheVariants as commands
-use Rattle.mq_objects.specs.Changed.{changed as changed_by}
-use Rattle.mq_objects.specs.Names.{named, is_kind}
-use Rattle.mq_objects.specs.Settings.{set_all, set_all_manager}
-use Rattle.mq_resolve.specs.Resolved.{row, first_row}
-use Rattle.mq_calls.specs.declared.commands.ScRefusal.TheVariants as refusals
+use Rattle.mq_sc_apply.specs.from_calls.Words.{Object, ManagerAttributes, Definitions, Command}
+use Rattle.mq_sc_apply.specs.from_calls.{ScRefusal, Shown}
+use Rattle.mq_sc_apply.specs.from_objects.ObjectVariants as objects
+use Rattle.mq_sc_apply.specs.from_objects.{Alter, Define, Delete, Display, Keyword}
+use Rattle.mq_sc_apply.specs.from_objects.CommandVariants as commands
+use Rattle.mq_sc_apply.specs.from_objects.Changed.{changed as changed_by}
+use Rattle.mq_sc_apply.specs.from_objects.Names.{named, is_kind}
+use Rattle.mq_sc_apply.specs.from_objects.Settings.{set_all, set_all_manager}
+use Rattle.mq_sc_apply.specs.from_resolve.Resolved.{row, first_row}
+use Rattle.mq_sc_apply.specs.from_calls.ScRefusalVariants as refusals
 use Rattle.mq_sc_apply.specs.declared.answers.Planned.{Planned}
 use Rattle.mq_sc_apply.specs.declared.answers.Plan.TheVariants as plans
 use Rattle.mq_sc_apply.specs.Uses.{Uses, nothing_used}

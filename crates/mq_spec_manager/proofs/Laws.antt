@@ -1,17 +1,11 @@
 -- What is kept: laws that go by the shape of a call, whatever its tests are.
 use Rattle.std.specs.Prelude.{◌≡◌, ℕ, Bool, true, false, List, Option, Some, None, Result, Ok, Err, refl}
 use Rattle.std.proofs.Common.{◌∙◌}
-use Rattle.mq_calls.specs.Steps.{◌>>=◌}
-use Rattle.mq_calls.specs.Words.{going_on, none_of, Md, Route, Reason, Message, Plain, Step, Test, refusal, refused_or, tested, next, logged, do_part, handle_at, apply, apply_all, place, try_if}
-use Rattle.mq_calls.specs.declared.answers.Answer.{Answer}
-use Rattle.mq_calls.specs.declared.answers.Hconn.{Hconn}
-use Rattle.mq_calls.specs.declared.answers.Hobj.{Hobj}
-use Rattle.mq_calls.specs.declared.answers.Open.{Open}
-use Rattle.mq_calls.specs.declared.records.LogRecord.{LogRecord}
-use Rattle.mq_calls.specs.declared.state.Connection.{Connection}
-use Rattle.mq_calls.specs.declared.state.Handle.{Handle}
-use Rattle.mq_resolve.specs.Resolved.{resolve}
-use Rattle.mq_calls.specs.State.Change.{CountIdent}
+use Rattle.mq_sc_apply.specs.from_calls.Steps.{◌>>=◌}
+use Rattle.mq_sc_apply.specs.from_calls.Words.{going_on, none_of, Md, Route, Reason, Message, Plain, Step, Test, refusal, refused_or, tested, next, logged, do_part, handle_at, apply, apply_all, place, try_if}
+use Rattle.mq_sc_apply.specs.from_calls.{Answer, Connection, Handle, Hconn, Hobj, LogRecord, Open}
+use Rattle.mq_sc_apply.specs.from_resolve.Resolved.{resolve}
+use Rattle.mq_sc_apply.specs.from_calls.State.Change.{CountIdent}
 use Rattle.mq_spec_manager.specs.Handles.{connected, for_connection, for_handle, mqopen, option_tests, open_tests, open_step}
 use Rattle.mq_spec_manager.specs.Put.{mqput, output_tests, put_tests, put_step, put_up, put_handle, put_route, put_part, unit_record, placed, queue_at, new_message, handle_route}
 

@@ -2,10 +2,9 @@
 -- all that lasts, and so does a stop.
 use Rattle.std.specs.Prelude.{◌≡◌, ℕ, Bool, true, not, ◌&&◌, List, [], ◌∷◌, Option, Some, None, map, refl}
 use Rattle.std.proofs.Common.{ap, ◌∙◌, arith}
-use Rattle.mq_calls.specs.Words.{Holder, Place, Message, is_persistent, is_by_unit, Plain, Queue, Noted, HeldByUnits, Nonpersistent, release_if, kept_in, released_in, forgotten, lasting, lasting_row, lasting_rows, shelf_of, shelves_of, freeze, Row, keep, retag, is_free}
-use Rattle.mq_calls.specs.declared.state.Batch.{Batch}
-use Rattle.mq_calls.specs.declared.image.Shelf.{Shelf}
-use Rattle.mq_message.specs.declared.place.Holder.TheVariants as holders
+use Rattle.mq_sc_apply.specs.from_calls.Words.{Holder, Place, Message, is_persistent, is_by_unit, Plain, Queue, Noted, HeldByUnits, Nonpersistent, release_if, kept_in, released_in, forgotten, lasting, lasting_row, lasting_rows, shelf_of, shelves_of, freeze, Row, keep, retag, is_free}
+use Rattle.mq_sc_apply.specs.from_calls.{Batch, Shelf}
+use Rattle.mq_heads.specs.from_message.HolderVariants as holders
 
 abbrev stays : Row → Bool
 stays row = not (not (is_persistent row.message))

@@ -1,8 +1,8 @@
 -- BackoutCount of a message that a unit got and gives back: it stops at the field's largest value, and counts on from below 0.
 use Rattle.std.specs.Prelude.{◌≡◌, ℕ, ℤ, pos, negsuc, true, List, [], ◌∷◌, None, map, codes, refl}
-use Rattle.mq_calls.specs.Words.{Message, Plain, stored, apply, next, Row}
-use Rattle.mq_calls.specs.declared.answers.Take.TheVariants as takes
-use Rattle.mq_calls.specs.State.Change.{Place}
+use Rattle.mq_sc_apply.specs.from_calls.Words.{Message, Plain, stored, apply, next, Row}
+use Rattle.mq_sc_apply.specs.from_calls.TakeVariants as takes
+use Rattle.mq_sc_apply.specs.from_calls.State.Change.{Place}
 use Rattle.mq_spec_manager.specs.Get.{mqget}
 use Rattle.mq_spec_manager.specs.Units.{mqback}
 use Rattle.mq_spec_manager.proofs.Script.{london_with, local, connect, connection, handle, shared_output, open_at, persistent_md, whole_get}

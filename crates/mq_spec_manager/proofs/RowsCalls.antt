@@ -1,25 +1,23 @@
 -- Worked rows, computed from the definitions.
 use Rattle.std.specs.Prelude.{◌≡◌, ℕ, pos, true, false, List, [], ◌∷◌, Some, None, Result, Ok, Err, replicate, codes, refl}
-use Rattle.mq_calls.specs.Words.{Reason, Md, Definitions, Route, Plain, depth, Step, next, Refuse, Do}
-use Rattle.mq_calls.specs.declared.answers.Got.{Got}
-use Rattle.mq_calls.specs.declared.answers.Answer.{Answer}
-use Rattle.mq_calls.specs.declared.answers.GetAnswer.{GetAnswer}
-use Rattle.mq_codes.specs.declared.reason.Reason.TheVariants as reasons
-use Rattle.mq_objects.specs.declared.object.Usage.TheVariants as usages
-use Rattle.mq_objects.specs.declared.setting.Setting.TheVariants as settings
-use Rattle.mq_resolve.specs.declared.route.RouteEnd.TheVariants.{Via}
-use Rattle.mq_resolve.specs.declared.route.PathStep.TheVariants as steps
-use Rattle.mq_resolve.specs.Resolved.{resolve}
-use Rattle.mq_calls.specs.declared.answers.Input.TheVariants as inputs
-use Rattle.mq_calls.specs.declared.answers.Take.TheVariants as takes
-use Rattle.mq_calls.specs.declared.answers.Answer.TheVariants as answers
-use Rattle.mq_calls.specs.declared.answers.GetAnswer.TheVariants as get_answers
+use Rattle.mq_sc_apply.specs.from_calls.Words.{Reason, Md, Definitions, Route, Plain, depth, Step, next, Refuse, Do}
+use Rattle.mq_sc_apply.specs.from_calls.{Answer, GetAnswer, Got}
+use Rattle.mq_sc_apply.specs.from_codes.ReasonVariants as reasons
+use Rattle.mq_sc_apply.specs.from_objects.UsageVariants as usages
+use Rattle.mq_sc_apply.specs.from_objects.SettingVariants as settings
+use Rattle.mq_sc_apply.specs.from_resolve.RouteEndVariants.{Via}
+use Rattle.mq_sc_apply.specs.from_resolve.PathStepVariants as steps
+use Rattle.mq_sc_apply.specs.from_resolve.Resolved.{resolve}
+use Rattle.mq_sc_apply.specs.from_calls.InputVariants as inputs
+use Rattle.mq_sc_apply.specs.from_calls.TakeVariants as takes
+use Rattle.mq_sc_apply.specs.from_calls.AnswerVariants as answers
+use Rattle.mq_sc_apply.specs.from_calls.GetAnswerVariants as get_answers
 use Rattle.mq_spec_manager.specs.Handles.{mqconn, mqopen, mqclose}
 use Rattle.mq_spec_manager.specs.Put.{mqput}
 use Rattle.mq_spec_manager.specs.Get.{mqget}
 use Rattle.mq_spec_manager.specs.Units.{mqcmit, mqback}
 use Rattle.mq_spec_manager.specs.Stops.{stop, restart, advance_clock}
-use Rattle.mq_calls.specs.declared.choices.Return.TheVariants.{Comes}
+use Rattle.mq_sc_apply.specs.from_calls.ReturnVariants.{Comes}
 use Rattle.mq_spec_manager.proofs.Script.{london, london_with, local, define_local, define_remote, define_alias, alter_qmgr, connect, connection, handle, shared_output, all_ways, open_at, script_md, script_appl, plain_md, persistent_md, whole_get, get_of, put_line, get_line, line, rows_line, backouts}
 
 abbrev q1 : List ℕ

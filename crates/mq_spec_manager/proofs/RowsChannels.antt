@@ -1,35 +1,33 @@
 -- Worked rows of channels, triggers, stops in a write, stale handles and moves, computed from the definitions.
 use Rattle.std.specs.Prelude.{◌≡◌, ℕ, pos, Bool, true, false, List, [], ◌∷◌, ◌++◌, Option, Some, None, length, codes, refl, take, drop, map, flat_map}
 use Rattle.std.specs.Option.{option_map}
-use Rattle.mq_calls.specs.Words.{Ident, Message, Object, ManagerAttributes, Command, Luw, InDoubt, Plain, stored, sender_data, depth, in_doubt_of, reserved, Step, next, after, Refuse, Row}
-use Rattle.mq_calls.specs.declared.answers.Open.{Open}
-use Rattle.mq_calls.specs.declared.commands.ScRefusal.{ScRefusal}
-use Rattle.mq_calls.specs.declared.commands.Shown.{Shown}
-use Rattle.mq_objects.specs.Changed.{set}
-use Rattle.mq_objects.specs.Attributes.{Attribute, attributes, shown_attribute, define_text}
-use Rattle.mq_objects.specs.Names.{named}
+use Rattle.mq_sc_apply.specs.from_calls.Words.{Ident, Message, Object, ManagerAttributes, Command, Luw, InDoubt, Plain, stored, sender_data, depth, in_doubt_of, reserved, Step, next, after, Refuse, Row}
+use Rattle.mq_sc_apply.specs.from_calls.{Open, ScRefusal, Shown}
+use Rattle.mq_sc_apply.specs.from_objects.Changed.{set}
+use Rattle.mq_sc_apply.specs.from_objects.Attributes.{Attribute, attributes, shown_attribute, define_text}
+use Rattle.mq_sc_apply.specs.from_objects.Names.{named}
 use Rattle.std.specs.Fmt.{digits}
-use Rattle.mq_objects.specs.Defaults.{new_manager}
-use Rattle.mq_objects.specs.declared.object.Usage.TheVariants as usages
-use Rattle.mq_objects.specs.declared.object.TriggerType.TheVariants as triggers
-use Rattle.mq_objects.specs.declared.setting.ChannelType.TheVariants as channel_types
-use Rattle.mq_objects.specs.declared.setting.Setting.{Setting}
-use Rattle.mq_objects.specs.declared.setting.Setting.TheVariants as settings
-use Rattle.mq_objects.specs.declared.command.Subject.TheVariants as subjects
-use Rattle.mq_objects.specs.declared.command.Command.TheVariants as commands
-use Rattle.mq_calls.specs.declared.answers.Input.TheVariants as inputs
-use Rattle.mq_disk.specs.declared.cutter.Stop.TheVariants as stops
-use Rattle.mq_calls.specs.declared.commands.ScRefusal.TheVariants as refusals
-use Rattle.mq_calls.specs.declared.agents.SeizeFault.TheVariants as seize_faults
-use Rattle.mq_calls.specs.declared.agents.Note.TheVariants as notes
-use Rattle.mq_codes.specs.declared.reason.Reason.TheVariants as reasons
-use Rattle.mq_message.specs.Layout.{long_bytes, long_of}
+use Rattle.mq_sc_apply.specs.from_objects.Defaults.{new_manager}
+use Rattle.mq_sc_apply.specs.from_objects.UsageVariants as usages
+use Rattle.mq_sc_apply.specs.from_objects.TriggerTypeVariants as triggers
+use Rattle.mq_sc_apply.specs.from_objects.ChannelTypeVariants as channel_types
+use Rattle.mq_sc_apply.specs.from_objects.{Setting}
+use Rattle.mq_sc_apply.specs.from_objects.SettingVariants as settings
+use Rattle.mq_sc_apply.specs.from_objects.SubjectVariants as subjects
+use Rattle.mq_sc_apply.specs.from_objects.CommandVariants as commands
+use Rattle.mq_sc_apply.specs.from_calls.InputVariants as inputs
+use Rattle.mq_sc_apply.specs.from_disk.StopVariants as stops
+use Rattle.mq_sc_apply.specs.from_calls.ScRefusalVariants as refusals
+use Rattle.mq_sc_apply.specs.from_calls.SeizeFaultVariants as seize_faults
+use Rattle.mq_sc_apply.specs.from_calls.NoteVariants as notes
+use Rattle.mq_sc_apply.specs.from_codes.ReasonVariants as reasons
+use Rattle.mq_heads.specs.from_message.Layout.{long_bytes, long_of}
 use Rattle.mq_heads.specs.Headers.{dlh_bytes, dlh_in, tm_bytes}
-use Rattle.mq_clock.specs.Stamps.{put_date, put_time, reached}
-use Rattle.mq_calls.specs.declared.choices.Choice.TheVariants.{Stopped}
+use Rattle.mq_heads.specs.Stamps.{put_date, put_time, reached}
+use Rattle.mq_sc_apply.specs.from_calls.ChoiceVariants.{Stopped}
 use Rattle.mq_spec_manager.specs.Words.{mqclose, mqput, mqcmit, command, trigger_turn, restart, cut}
 use Rattle.mq_spec_manager.specs.Commands.{defined_object}
-use Rattle.mq_calls.specs.declared.choices.Return.TheVariants.{Comes}
+use Rattle.mq_sc_apply.specs.from_calls.ReturnVariants.{Comes}
 use Rattle.mq_spec_manager.specs.Agents.{seize, hold_batch, prepare, harden, receive, move_row, batch_row}
 use Rattle.mq_spec_manager.proofs.Script.{starting, london_with, local, connect, connection, handle, shared_output, open_at, script_md, plain_md, persistent_md, put_line, line, rows_line, ident_numbers}
 

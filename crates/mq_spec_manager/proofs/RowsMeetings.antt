@@ -2,15 +2,13 @@
 -- whose count didn't rise.
 use Rattle.std.specs.Prelude.{◌≡◌, ℕ, false, List, [], ◌∷◌, None, Ok, Err, codes, refl}
 use Rattle.std.proofs.Common.{ap, arith, ◌∙◌, sym}
-use Rattle.mq_disk.specs.declared.cutter.Stop.TheVariants as stops
-use Rattle.mq_calls.specs.Words.{Reason, Plain, Step, Part, write_calls, delta_of, Refuse, Do, ManagerValue, untouched, Meets, MeetsOrWants, MeetsInRoom, MeetsDone, StoppedIn}
-use Rattle.mq_calls.specs.declared.answers.Answer.{Answer}
-use Rattle.mq_calls.specs.declared.answers.Sent.{Sent}
-use Rattle.mq_calls.specs.declared.deltas.Did.{Did}
-use Rattle.mq_codes.specs.declared.reason.Reason.TheVariants as reasons
-use Rattle.mq_calls.specs.declared.commands.Halt.TheVariants as halts
-use Rattle.mq_calls.specs.declared.deltas.Did.TheVariants as did
-use Rattle.mq_calls.specs.Meeting.Wants.{Behind}
+use Rattle.mq_sc_apply.specs.from_disk.StopVariants as stops
+use Rattle.mq_sc_apply.specs.from_calls.Words.{Reason, Plain, Step, Part, write_calls, delta_of, Refuse, Do, ManagerValue, untouched, Meets, MeetsOrWants, MeetsInRoom, MeetsDone, StoppedIn}
+use Rattle.mq_sc_apply.specs.from_calls.{Answer, Did, Sent}
+use Rattle.mq_sc_apply.specs.from_codes.ReasonVariants as reasons
+use Rattle.mq_sc_apply.specs.from_calls.HaltVariants as halts
+use Rattle.mq_sc_apply.specs.from_calls.DidVariants as did
+use Rattle.mq_sc_apply.specs.from_calls.Meeting.Wants.{Behind}
 use Rattle.mq_spec_manager.specs.Put.{mqput}
 use Rattle.mq_spec_manager.proofs.Script.{london_with, local, connect, connection, handle, shared_output, open_at, persistent_md}
 

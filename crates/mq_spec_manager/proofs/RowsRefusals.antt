@@ -1,30 +1,28 @@
 -- More refusals, a get that forces twice, and what DISPLAY shows, computed from the definitions.
 use Rattle.std.specs.Prelude.{◌≡◌, ℕ, pos, ◌+◌, Bool, true, false, List, [], ◌∷◌, None, codes, refl}
 use Rattle.std.specs.Fmt.{digits}
-use Rattle.mq_calls.specs.Words.{Md, Command, Reason, Plain, Step, After, next, after, Refuse, Do}
-use Rattle.mq_calls.specs.declared.answers.Open.{Open}
-use Rattle.mq_calls.specs.declared.answers.Input.{Input}
-use Rattle.mq_calls.specs.declared.answers.GetAnswer.{GetAnswer}
-use Rattle.mq_objects.specs.declared.object.Usage.TheVariants as usages
-use Rattle.mq_objects.specs.declared.setting.Keyword.TheVariants as keywords
-use Rattle.mq_objects.specs.declared.setting.Setting.{Setting}
-use Rattle.mq_objects.specs.declared.setting.Setting.TheVariants as settings
-use Rattle.mq_objects.specs.declared.command.Subject.TheVariants as subjects
-use Rattle.mq_objects.specs.declared.command.Subjects.TheVariants as shows
-use Rattle.mq_objects.specs.declared.command.Command.TheVariants as commands
-use Rattle.mq_calls.specs.declared.answers.Input.TheVariants as inputs
-use Rattle.mq_calls.specs.declared.answers.Take.TheVariants as takes
-use Rattle.mq_disk.specs.declared.cutter.Stop.TheVariants as stops
-use Rattle.mq_calls.specs.declared.commands.ScRefusal.TheVariants as refusals
-use Rattle.mq_calls.specs.declared.deltas.Did.TheVariants as did
-use Rattle.mq_calls.specs.declared.deltas.Why.TheVariants as whys
-use Rattle.mq_calls.specs.declared.choices.Choice.TheVariants.{Stopped}
+use Rattle.mq_sc_apply.specs.from_calls.Words.{Md, Command, Reason, Plain, Step, After, next, after, Refuse, Do}
+use Rattle.mq_sc_apply.specs.from_calls.{GetAnswer, Input, Open}
+use Rattle.mq_sc_apply.specs.from_objects.UsageVariants as usages
+use Rattle.mq_sc_apply.specs.from_objects.KeywordVariants as keywords
+use Rattle.mq_sc_apply.specs.from_objects.{Setting}
+use Rattle.mq_sc_apply.specs.from_objects.SettingVariants as settings
+use Rattle.mq_sc_apply.specs.from_objects.SubjectVariants as subjects
+use Rattle.mq_sc_apply.specs.from_objects.SubjectsVariants as shows
+use Rattle.mq_sc_apply.specs.from_objects.CommandVariants as commands
+use Rattle.mq_sc_apply.specs.from_calls.InputVariants as inputs
+use Rattle.mq_sc_apply.specs.from_calls.TakeVariants as takes
+use Rattle.mq_sc_apply.specs.from_disk.StopVariants as stops
+use Rattle.mq_sc_apply.specs.from_calls.ScRefusalVariants as refusals
+use Rattle.mq_sc_apply.specs.from_calls.DidVariants as did
+use Rattle.mq_sc_apply.specs.from_calls.WhyVariants as whys
+use Rattle.mq_sc_apply.specs.from_calls.ChoiceVariants.{Stopped}
 use Rattle.mq_spec_manager.specs.Handles.{mqopen}
 use Rattle.mq_spec_manager.specs.Put.{mqput}
 use Rattle.mq_spec_manager.specs.Get.{mqget}
 use Rattle.mq_spec_manager.specs.Commands.{command}
 use Rattle.mq_spec_manager.specs.Stops.{restart, advance_clock}
-use Rattle.mq_calls.specs.declared.choices.Return.TheVariants.{Comes}
+use Rattle.mq_sc_apply.specs.from_calls.ReturnVariants.{Comes}
 use Rattle.mq_spec_manager.proofs.Script.{london, london_with, local, connect, connection, handle, shared_output, open_at, plain_md, persistent_md, whole_get, put_line, get_line, line, rows_line}
 
 abbrev q1 : List ℕ

@@ -2,12 +2,12 @@
 -- restart there are, by the device calls before an armed cut.
 use Rattle.std.specs.Prelude.{◌≡◌, ℕ, Bool, true, false, List, [], ◌∷◌, Some, None, map, codes, refl}
 use Rattle.std.proofs.Common.{arith, inl, inr}
-use Rattle.mq_calls.specs.Words.{Row, Plain, stored, with_queue, lasting, next}
-use Rattle.mq_calls.specs.declared.choices.Return.TheVariants.{Comes, Fails}
-use Rattle.mq_calls.specs.declared.commands.RestartFault.TheVariants as faults
+use Rattle.mq_sc_apply.specs.from_calls.Words.{Row, Plain, stored, with_queue, lasting, next}
+use Rattle.mq_sc_apply.specs.from_calls.ReturnVariants.{Comes, Fails}
+use Rattle.mq_sc_apply.specs.from_calls.RestartFaultVariants as faults
 use Rattle.mq_spec_manager.specs.Put.{mqput}
 use Rattle.mq_spec_manager.specs.Stops.{stop, restart, CanReturn, CanReturnTold, first_start, next_started}
-use Rattle.mq_calls.specs.declared.records.LogRecord.TheVariants as records
+use Rattle.mq_sc_apply.specs.from_calls.LogRecordVariants as records
 use Rattle.mq_spec_manager.proofs.Script.{london_with, local, connect, connection, handle, shared_output, open_at, plain_md, persistent_md}
 
 abbrev q1 : List ℕ

@@ -1,15 +1,15 @@
 -- Messages that come to a manager where their ident stands already: held by a unit in doubt, with the same persistence or the
 -- other; on that unit's list alone; pending, or of a number not given yet; twice in one batch.
 use Rattle.std.specs.Prelude.{◌≡◌, ℕ, pos, Bool, true, false, List, [], ◌∷◌, Option, Some, None, Result, Ok, Err, length, map, codes, refl}
-use Rattle.mq_calls.specs.Words.{Reason, Ident, Message, Object, Luw, InDoubt, Plain, sender_data, in_doubt_of, apply, next}
-use Rattle.mq_calls.specs.declared.state.SenderSide.{SenderSide}
-use Rattle.mq_objects.specs.declared.object.Usage.TheVariants as usages
-use Rattle.mq_objects.specs.declared.setting.ChannelType.TheVariants as channel_types
-use Rattle.mq_objects.specs.declared.setting.Setting.TheVariants as settings
-use Rattle.mq_objects.specs.declared.command.Subject.TheVariants as subjects
-use Rattle.mq_calls.specs.declared.agents.Note.TheVariants as notes
-use Rattle.mq_calls.specs.declared.choices.Return.TheVariants.{Comes}
-use Rattle.mq_calls.specs.State.Change.{Place}
+use Rattle.mq_sc_apply.specs.from_calls.Words.{Reason, Ident, Message, Object, Luw, InDoubt, Plain, sender_data, in_doubt_of, apply, next}
+use Rattle.mq_sc_apply.specs.from_calls.{SenderSide}
+use Rattle.mq_sc_apply.specs.from_objects.UsageVariants as usages
+use Rattle.mq_sc_apply.specs.from_objects.ChannelTypeVariants as channel_types
+use Rattle.mq_sc_apply.specs.from_objects.SettingVariants as settings
+use Rattle.mq_sc_apply.specs.from_objects.SubjectVariants as subjects
+use Rattle.mq_sc_apply.specs.from_calls.NoteVariants as notes
+use Rattle.mq_sc_apply.specs.from_calls.ReturnVariants.{Comes}
+use Rattle.mq_sc_apply.specs.from_calls.State.Change.{Place}
 use Rattle.mq_spec_manager.specs.Commands.{defined_object}
 use Rattle.mq_spec_manager.specs.Words.{mqput, stop, restart}
 use Rattle.mq_spec_manager.specs.Agents.{Landed, landed, messages_taken, receive, seize, hold_batch, prepare, harden}

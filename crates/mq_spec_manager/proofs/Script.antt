@@ -1,26 +1,15 @@
 -- Calls of a script, and what its report would show, for worked rows.
 use Rattle.std.specs.Prelude.{ℕ, ℤ, pos, negsuc, Bool, true, false, List, [], ◌∷◌, None, map, replicate, codes}
-use Rattle.mq_calls.specs.Words.{Reason, Ident, Md, Object, LocalQueue, Definitions, Plain, stored, Step, next, Refuse, Do, Row, locals_of}
-use Rattle.mq_calls.specs.declared.answers.Hconn.{Hconn}
-use Rattle.mq_calls.specs.declared.answers.Hobj.{Hobj}
-use Rattle.mq_calls.specs.declared.answers.Appl.{Appl}
-use Rattle.mq_calls.specs.declared.answers.Open.{Open}
-use Rattle.mq_calls.specs.declared.answers.Answer.{Answer}
-use Rattle.mq_calls.specs.declared.answers.Sent.{Sent}
-use Rattle.mq_calls.specs.declared.answers.Got.{Got}
-use Rattle.mq_calls.specs.declared.answers.Get.{Get}
-use Rattle.mq_calls.specs.declared.answers.Take.{Take}
-use Rattle.mq_calls.specs.declared.answers.GetAnswer.{GetAnswer}
-use Rattle.mq_calls.specs.declared.image.Image.{Image}
-use Rattle.mq_calls.specs.declared.image.Shelf.{Shelf}
-use Rattle.mq_codes.specs.Numbers.{number}
-use Rattle.mq_objects.specs.Defaults.{nothing_defined}
-use Rattle.mq_objects.specs.declared.setting.Setting.{Setting}
-use Rattle.mq_objects.specs.declared.command.Subject.TheVariants as subjects
-use Rattle.mq_objects.specs.declared.command.Command.TheVariants as commands
-use Rattle.mq_calls.specs.declared.answers.Input.TheVariants as inputs
-use Rattle.mq_calls.specs.declared.answers.Answer.TheVariants as answers
-use Rattle.mq_calls.specs.declared.answers.GetAnswer.TheVariants as get_answers
+use Rattle.mq_sc_apply.specs.from_calls.Words.{Reason, Ident, Md, Object, LocalQueue, Definitions, Plain, stored, Step, next, Refuse, Do, Row, locals_of}
+use Rattle.mq_sc_apply.specs.from_calls.{Answer, Appl, Get, GetAnswer, Got, Hconn, Hobj, Image, Open, Sent, Shelf, Take}
+use Rattle.mq_sc_apply.specs.from_codes.Numbers.{number}
+use Rattle.mq_sc_apply.specs.from_objects.Defaults.{nothing_defined}
+use Rattle.mq_sc_apply.specs.from_objects.{Setting}
+use Rattle.mq_sc_apply.specs.from_objects.SubjectVariants as subjects
+use Rattle.mq_sc_apply.specs.from_objects.CommandVariants as commands
+use Rattle.mq_sc_apply.specs.from_calls.InputVariants as inputs
+use Rattle.mq_sc_apply.specs.from_calls.AnswerVariants as answers
+use Rattle.mq_sc_apply.specs.from_calls.GetAnswerVariants as get_answers
 use Rattle.mq_spec_manager.specs.Stops.{first_start}
 use Rattle.mq_spec_manager.specs.Handles.{mqconn, mqopen}
 use Rattle.mq_spec_manager.specs.Commands.{command, defined_object}

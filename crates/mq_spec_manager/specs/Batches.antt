@@ -1,15 +1,13 @@
 -- A sender's batch: rows are held, released, or prepared as the unit in doubt.
 use Rattle.std.specs.Option.{option_map}
 use Rattle.std.specs.Prelude.{ℕ, zero, suc, false, List, [], ◌∷◌, Option, Some, None, length, map, take, find, slice_get}
-use Rattle.mq_calls.specs.Words.{Ident, Message, sender_or, data_prepared, InDoubt, SenderData, Luw, stored, sender_data, free_rows, batch_of, is_full, need, Plain, Change, Among, HeldBy, Step, when, tested, say, Do, has_ident, Row}
-use Rattle.mq_calls.specs.declared.agents.PrepareFault.{PrepareFault}
-use Rattle.mq_calls.specs.declared.records.LogRecord.{LogRecord}
-use Rattle.mq_calls.specs.declared.state.Batch.{Batch}
-use Rattle.mq_message.specs.declared.place.Holder.TheVariants as holders
-use Rattle.mq_calls.specs.declared.agents.PrepareFault.TheVariants as prepare_faults
-use Rattle.mq_calls.specs.declared.deltas.Did.TheVariants as did
-use Rattle.mq_calls.specs.declared.records.LogRecord.TheVariants as records
-use Rattle.mq_calls.specs.State.Change.{Hold, Release, SetSender, AddBatch, DropBatch}
+use Rattle.mq_sc_apply.specs.from_calls.Words.{Ident, Message, sender_or, data_prepared, InDoubt, SenderData, Luw, stored, sender_data, free_rows, batch_of, is_full, need, Plain, Change, Among, HeldBy, Step, when, tested, say, Do, has_ident, Row}
+use Rattle.mq_sc_apply.specs.from_calls.{Batch, LogRecord, PrepareFault}
+use Rattle.mq_heads.specs.from_message.HolderVariants as holders
+use Rattle.mq_sc_apply.specs.from_calls.PrepareFaultVariants as prepare_faults
+use Rattle.mq_sc_apply.specs.from_calls.DidVariants as did
+use Rattle.mq_sc_apply.specs.from_calls.LogRecordVariants as records
+use Rattle.mq_sc_apply.specs.from_calls.State.Change.{Hold, Release, SetSender, AddBatch, DropBatch}
 use Rattle.mq_spec_manager.specs.Words.{idents_of, Never}
 use Rattle.mq_spec_manager.specs.Seizing.{queue_of_sender}
 

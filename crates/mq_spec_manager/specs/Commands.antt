@@ -1,22 +1,21 @@
 -- Commands on objects at a plain manager: their answers and changes are those that are planned from the definitions and
 -- from what the manager says of the use of its objects.
 use Rattle.std.specs.Prelude.{ℕ, Bool, true, false, not, List, [], ◌∷◌, ◌++◌, Option, Some, None, Result, Ok, Err}
-use Rattle.mq_calls.specs.Words.{LocalQueue, Object, Definitions, Subject, Command, ObjectChange, PathStep, Plain, Change, stored, is_up, depth, has_rows, read_by_sender, on_path, channel_busy, Step, Part, when, tested, say, Refuse, Do, local_of}
-use Rattle.mq_calls.specs.declared.commands.Shown.{Shown}
-use Rattle.mq_calls.specs.declared.commands.ScRefusal.{ScRefusal}
-use Rattle.mq_objects.specs.declared.object.Object.TheVariants as objects
-use Rattle.mq_objects.specs.declared.command.Subject.TheVariants as subjects
-use Rattle.mq_objects.specs.declared.change.ObjectChange.TheVariants as changes
-use Rattle.mq_objects.specs.Names.{name_of}
-use Rattle.mq_resolve.specs.declared.route.PathStep.TheVariants as steps
-use Rattle.mq_calls.specs.declared.commands.ScRefusal.TheVariants as refusals
-use Rattle.mq_calls.specs.declared.records.LogRecord.TheVariants as records
+use Rattle.mq_sc_apply.specs.from_calls.Words.{LocalQueue, Object, Definitions, Subject, Command, ObjectChange, PathStep, Plain, Change, stored, is_up, depth, has_rows, read_by_sender, on_path, channel_busy, Step, Part, when, tested, say, Refuse, Do, local_of}
+use Rattle.mq_sc_apply.specs.from_calls.{ScRefusal, Shown}
+use Rattle.mq_sc_apply.specs.from_objects.ObjectVariants as objects
+use Rattle.mq_sc_apply.specs.from_objects.SubjectVariants as subjects
+use Rattle.mq_sc_apply.specs.from_objects.ObjectChangeVariants as changes
+use Rattle.mq_sc_apply.specs.from_objects.Names.{name_of}
+use Rattle.mq_sc_apply.specs.from_resolve.PathStepVariants as steps
+use Rattle.mq_sc_apply.specs.from_calls.ScRefusalVariants as refusals
+use Rattle.mq_sc_apply.specs.from_calls.LogRecordVariants as records
 use Rattle.mq_sc_apply.specs.declared.answers.Planned.{Planned}
 use Rattle.mq_sc_apply.specs.declared.answers.Plan.{Plan}
 use Rattle.mq_sc_apply.specs.declared.answers.Plan.TheVariants as plans
 use Rattle.mq_sc_apply.specs.Uses.{Uses, nothing_used}
 use Rattle.mq_sc_apply.specs.Commands.{plan, after}
-use Rattle.mq_calls.specs.State.Change.{ChangeObjects, Renew, DropQueue, SwitchOn, MakeStale}
+use Rattle.mq_sc_apply.specs.from_calls.State.Change.{ChangeObjects, Renew, DropQueue, SwitchOn, MakeStale}
 pub use Rattle.mq_sc_apply.specs.Planned.{defined_object}
 
 -- what a plain manager says of the use of its objects

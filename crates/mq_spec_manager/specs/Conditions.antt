@@ -2,13 +2,12 @@
 use Rattle.std.specs.List.{list_any, AllByRecursion}
 use Rattle.std.specs.Option.{option_map}
 use Rattle.std.specs.Prelude.{AllPairs, ℕ, Bool, true, false, not, ◌&&◌, List, [], ◌∷◌, Option, Some, None, find, ◌≡◌, ◌<◌, ◌≤◌, IsSome, is_some}
-use Rattle.mq_calls.specs.Words.{Ident, LocalQueue, sender_or, receiver_or, Below, InDoubt, Luw, rests_by, stored, sender_data, receiver_data, seizure_of, batch_of, in_doubt_of, is_up, Plain, Queue, same_ident, has_ident, held_by, Row, local_of, channel_of, is_transmission}
-use Rattle.mq_calls.specs.declared.agents.Note.{Note}
-use Rattle.mq_calls.specs.declared.state.Batch.{Batch}
-use Rattle.mq_calls.specs.Recovery.{IsNumbered}
-use Rattle.mq_message.specs.declared.place.Holder.TheVariants as holders
-use Rattle.mq_sync.specs.declared.data.End.TheVariants as ends
-use Rattle.mq_calls.specs.declared.agents.Note.TheVariants as notes
+use Rattle.mq_sc_apply.specs.from_calls.Words.{Ident, LocalQueue, sender_or, receiver_or, Below, InDoubt, Luw, rests_by, stored, sender_data, receiver_data, seizure_of, batch_of, in_doubt_of, is_up, Plain, Queue, same_ident, has_ident, held_by, Row, local_of, channel_of, is_transmission}
+use Rattle.mq_sc_apply.specs.from_calls.{Batch, Note}
+use Rattle.mq_sc_apply.specs.from_calls.Recovery.{IsNumbered}
+use Rattle.mq_heads.specs.from_message.HolderVariants as holders
+use Rattle.mq_sc_apply.specs.from_sync.EndVariants as ends
+use Rattle.mq_sc_apply.specs.from_calls.NoteVariants as notes
 use Rattle.mq_spec_manager.specs.Words.{is_dead}
 use Rattle.mq_spec_manager.specs.Seizing.{is_sender, is_receiver}
 

@@ -1,31 +1,20 @@
 -- MQGET.
 use Rattle.std.specs.Prelude.{ℕ, pos, ◌+◌, ◌*◌, nat_lt, Bool, true, false, not, ◌&&◌, List, [], ◌∷◌, ◌++◌, if◌then◌else◌, Option, Some, None, length, map, filter, take, codes}
 use Rattle.std.specs.List.{list_any}
-use Rattle.mq_calls.specs.Words.{Reason, Ident, Dest, Md, Message, Place, Want, Object, Definitions, PathStep, Plain, Among, stored, is_persistent, is_input, handle_at, is_expired, more_need, is_full, Step, Part, Test, when, tested, silent, say, Do, Row, is_free, is_wanted, is_after, same_place, queue_of}
-use Rattle.mq_calls.specs.declared.answers.Hconn.{Hconn}
-use Rattle.mq_calls.specs.declared.answers.Hobj.{Hobj}
-use Rattle.mq_calls.specs.declared.answers.Answer.{Answer}
-use Rattle.mq_calls.specs.declared.answers.Take.{Take}
-use Rattle.mq_calls.specs.declared.answers.Get.{Get}
-use Rattle.mq_calls.specs.declared.answers.Got.{Got}
-use Rattle.mq_calls.specs.declared.answers.GetAnswer.{GetAnswer}
-use Rattle.mq_calls.specs.declared.deltas.Why.{Why}
-use Rattle.mq_calls.specs.declared.records.Remove.{Remove}
-use Rattle.mq_calls.specs.declared.records.LogRecord.{LogRecord}
-use Rattle.mq_calls.specs.declared.state.Connection.{Connection}
-use Rattle.mq_calls.specs.declared.state.Handle.{Handle}
-use Rattle.mq_codes.specs.declared.reason.Reason.TheVariants as reasons
-use Rattle.mq_message.specs.declared.place.Holder.TheVariants as holders
-use Rattle.mq_objects.specs.declared.object.Object.TheVariants as objects
-use Rattle.mq_resolve.specs.declared.route.PathStep.TheVariants as steps
-use Rattle.mq_calls.specs.declared.answers.Answer.TheVariants as answers
-use Rattle.mq_calls.specs.declared.answers.Take.TheVariants as takes
-use Rattle.mq_calls.specs.declared.answers.GetAnswer.TheVariants.{NotYet, Done}
-use Rattle.mq_calls.specs.declared.deltas.Did.TheVariants as did
-use Rattle.mq_calls.specs.declared.deltas.Why.TheVariants as reasons_gone
-use Rattle.mq_calls.specs.declared.records.LogRecord.TheVariants as records
-use Rattle.mq_calls.specs.declared.state.Item.TheVariants.{Take as Taken}
-use Rattle.mq_calls.specs.State.Change.{Leave, Hold, SetCursor, Pend}
+use Rattle.mq_sc_apply.specs.from_calls.Words.{Reason, Ident, Dest, Md, Message, Place, Want, Object, Definitions, PathStep, Plain, Among, stored, is_persistent, is_input, handle_at, is_expired, more_need, is_full, Step, Part, Test, when, tested, silent, say, Do, Row, is_free, is_wanted, is_after, same_place, queue_of}
+use Rattle.mq_sc_apply.specs.from_calls.{Answer, Connection, Get, GetAnswer, Got, Handle, Hconn, Hobj, LogRecord, Remove, Take, Why}
+use Rattle.mq_sc_apply.specs.from_codes.ReasonVariants as reasons
+use Rattle.mq_heads.specs.from_message.HolderVariants as holders
+use Rattle.mq_sc_apply.specs.from_objects.ObjectVariants as objects
+use Rattle.mq_sc_apply.specs.from_resolve.PathStepVariants as steps
+use Rattle.mq_sc_apply.specs.from_calls.AnswerVariants as answers
+use Rattle.mq_sc_apply.specs.from_calls.TakeVariants as takes
+use Rattle.mq_sc_apply.specs.from_calls.GetAnswerVariants.{NotYet, Done}
+use Rattle.mq_sc_apply.specs.from_calls.DidVariants as did
+use Rattle.mq_sc_apply.specs.from_calls.WhyVariants as reasons_gone
+use Rattle.mq_sc_apply.specs.from_calls.LogRecordVariants as records
+use Rattle.mq_sc_apply.specs.from_calls.ItemVariants.{Take as Taken}
+use Rattle.mq_sc_apply.specs.from_calls.State.Change.{Leave, Hold, SetCursor, Pend}
 use Rattle.mq_heads.specs.Headers.{xqh_bytes}
 use Rattle.mq_spec_manager.specs.Heads.{xqh_of}
 use Rattle.mq_spec_manager.specs.Handles.{connected, for_connection, for_handle}

@@ -1,22 +1,15 @@
 -- Connections and handles: the connection check, MQCONN, MQOPEN, MQCLOSE.
 use Rattle.std.specs.Prelude.{ℕ, ◌+◌, ◌==◌, nat_le, Bool, false, not, ◌&&◌, ◌||◌, List, [], ◌∷◌, if◌then◌else◌, Option, Some, None, Result, Ok, Err, length}
 use Rattle.std.specs.Str.{bytes_eq}
-use Rattle.mq_calls.specs.Steps.{◌>>=◌}
-use Rattle.mq_calls.specs.Words.{none_of, Reason, LocalQueue, RouteEnd, Route, Plain, is_up, connection_at, handle_at, is_input, is_open_for_input, exclusive_handle, read_by_sender, has_held, Step, Test, when, tested, silent, Refuse, Do, local_of, is_transmission}
-use Rattle.mq_calls.specs.declared.answers.Hconn.{Hconn}
-use Rattle.mq_calls.specs.declared.answers.Hobj.{Hobj}
-use Rattle.mq_calls.specs.declared.answers.Appl.{Appl}
-use Rattle.mq_calls.specs.declared.answers.Answer.{Answer}
-use Rattle.mq_calls.specs.declared.answers.Input.{Input}
-use Rattle.mq_calls.specs.declared.answers.Open.{Open}
-use Rattle.mq_calls.specs.declared.state.Connection.{Connection}
-use Rattle.mq_calls.specs.declared.state.Handle.{Handle}
-use Rattle.mq_codes.specs.declared.reason.Reason.TheVariants as reasons
-use Rattle.mq_resolve.specs.declared.route.RouteEnd.TheVariants.{Local, Via}
-use Rattle.mq_resolve.specs.Resolved.{resolve}
-use Rattle.mq_calls.specs.declared.answers.Answer.TheVariants as answers
-use Rattle.mq_calls.specs.declared.answers.Input.TheVariants as inputs
-use Rattle.mq_calls.specs.State.Change.{Connect, OpenHandle, CloseHandle}
+use Rattle.mq_sc_apply.specs.from_calls.Steps.{◌>>=◌}
+use Rattle.mq_sc_apply.specs.from_calls.Words.{none_of, Reason, LocalQueue, RouteEnd, Route, Plain, is_up, connection_at, handle_at, is_input, is_open_for_input, exclusive_handle, read_by_sender, has_held, Step, Test, when, tested, silent, Refuse, Do, local_of, is_transmission}
+use Rattle.mq_sc_apply.specs.from_calls.{Answer, Appl, Connection, Handle, Hconn, Hobj, Input, Open}
+use Rattle.mq_sc_apply.specs.from_codes.ReasonVariants as reasons
+use Rattle.mq_sc_apply.specs.from_resolve.RouteEndVariants.{Local, Via}
+use Rattle.mq_sc_apply.specs.from_resolve.Resolved.{resolve}
+use Rattle.mq_sc_apply.specs.from_calls.AnswerVariants as answers
+use Rattle.mq_sc_apply.specs.from_calls.InputVariants as inputs
+use Rattle.mq_sc_apply.specs.from_calls.State.Change.{Connect, OpenHandle, CloseHandle}
 
 -- The connection check. None, or another manager's; or of this incarnation while it runs, and no such connection lives.
 abbrev pub is_other : Hconn → Plain → Bool

@@ -1,16 +1,14 @@
 -- What channel ends harden beside their messages.
 use Rattle.std.specs.Prelude.{ℕ, Bool, true, false, List, [], ◌∷◌, ◌++◌, Some, map, filter, flat_map}
-use Rattle.mq_calls.specs.Words.{Holder, sender_or, receiver_or, data_settled, settle_by, End, sender_data, receiver_data, Plain, Change, Queue, HeldBy, Step, Part, Do, held_by, Row}
-use Rattle.mq_calls.specs.declared.agents.Note.{Note}
-use Rattle.mq_calls.specs.declared.deltas.Did.{Did}
-use Rattle.mq_calls.specs.declared.records.Remove.{Remove}
-use Rattle.mq_message.specs.declared.place.Holder.TheVariants as holders
-use Rattle.mq_sync.specs.declared.data.End.TheVariants as ends
-use Rattle.mq_calls.specs.declared.agents.Note.TheVariants as notes
-use Rattle.mq_calls.specs.declared.deltas.Did.TheVariants as did
-use Rattle.mq_calls.specs.declared.deltas.Why.TheVariants as whys
-use Rattle.mq_calls.specs.declared.records.LogRecord.TheVariants as records
-use Rattle.mq_calls.specs.State.Change.{Leave, Release, SetSender, SetReceiver}
+use Rattle.mq_sc_apply.specs.from_calls.Words.{Holder, sender_or, receiver_or, data_settled, settle_by, End, sender_data, receiver_data, Plain, Change, Queue, HeldBy, Step, Part, Do, held_by, Row}
+use Rattle.mq_sc_apply.specs.from_calls.{Did, Note, Remove}
+use Rattle.mq_heads.specs.from_message.HolderVariants as holders
+use Rattle.mq_sc_apply.specs.from_sync.EndVariants as ends
+use Rattle.mq_sc_apply.specs.from_calls.NoteVariants as notes
+use Rattle.mq_sc_apply.specs.from_calls.DidVariants as did
+use Rattle.mq_sc_apply.specs.from_calls.WhyVariants as whys
+use Rattle.mq_sc_apply.specs.from_calls.LogRecordVariants as records
+use Rattle.mq_sc_apply.specs.from_calls.State.Change.{Leave, Release, SetSender, SetReceiver}
 use Rattle.mq_spec_manager.specs.Words.{Never}
 
 -- Harden. The rows that a holder has, queue by queue.

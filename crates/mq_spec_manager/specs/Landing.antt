@@ -1,14 +1,14 @@
 -- Where a message that a channel brings is put: by its route, or as a dead letter.
 use Rattle.std.specs.Prelude.{ℕ, pos, ◌+◌, nat_lt, nat_le, Bool, true, false, not, ◌&&◌, List, [], ◌∷◌, ◌++◌, Option, Some, None, Result, Ok, Err, length, codes}
-use Rattle.mq_base.specs.Name.{padded}
-use Rattle.mq_codes.specs.Numbers.{number}
-use Rattle.mq_calls.specs.Words.{Reason, Dest, Md, Message, Channel, ChannelKind, LocalQueue, Route, depth, Plain, Test, when, refusal, local_of, channel_of, is_transmission}
-use Rattle.mq_codes.specs.declared.reason.Reason.TheVariants as reasons
-use Rattle.mq_objects.specs.declared.object.ChannelKind.TheVariants as kinds
-use Rattle.mq_resolve.specs.Resolved.{resolve}
+use Rattle.mq_heads.specs.from_base.Name.{padded}
+use Rattle.mq_sc_apply.specs.from_codes.Numbers.{number}
+use Rattle.mq_sc_apply.specs.from_calls.Words.{Reason, Dest, Md, Message, Channel, ChannelKind, LocalQueue, Route, depth, Plain, Test, when, refusal, local_of, channel_of, is_transmission}
+use Rattle.mq_sc_apply.specs.from_codes.ReasonVariants as reasons
+use Rattle.mq_sc_apply.specs.from_objects.ChannelKindVariants as kinds
+use Rattle.mq_sc_apply.specs.from_resolve.Resolved.{resolve}
 use Rattle.mq_heads.specs.Headers.{dlh_bytes}
 use Rattle.mq_heads.specs.declared.headers.Dlh.{Dlh}
-use Rattle.mq_clock.specs.Stamps.{put_date, put_time}
+use Rattle.mq_heads.specs.Stamps.{put_date, put_time}
 use Rattle.mq_spec_manager.specs.Words.{is_unfit, queue_at, dest_at, output_only, placing_tests}
 
 -- The names that came with a message.

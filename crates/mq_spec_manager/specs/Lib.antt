@@ -17,3 +17,6 @@ pub mod Receiving
 pub mod Moves
 pub mod Conditions
 pub mod Agents
+pub mod from_calls
+pub mod from_heads
+pub mod from_sc_apply

@@ -1,14 +1,14 @@
 -- The dead-letter handler's calls.
 use Rattle.std.specs.Prelude.{ℕ, Bool, true, false, ◌&&◌, List, [], ◌∷◌, ◌++◌, if◌then◌else◌, Option, Some, None, Result, Ok, Err, length, filter, drop, find}
-use Rattle.mq_calls.specs.Words.{Reason, Dest, Ident, Message, Place as RowPlace, Route, stored, is_persistent, is_full, need, Plain, Among, Step, Part, when, tested, say, Refuse, Do, has_ident, is_free, is_after, Row}
-use Rattle.mq_calls.specs.declared.records.LogRecord.{LogRecord}
-use Rattle.mq_codes.specs.declared.reason.Reason.TheVariants as reasons
-use Rattle.mq_resolve.specs.Resolved.{resolve}
-use Rattle.mq_calls.specs.declared.deltas.Did.TheVariants as did
-use Rattle.mq_calls.specs.declared.deltas.Why.TheVariants as whys
-use Rattle.mq_calls.specs.declared.records.LogRecord.TheVariants as records
+use Rattle.mq_sc_apply.specs.from_calls.Words.{Reason, Dest, Ident, Message, Place as RowPlace, Route, stored, is_persistent, is_full, need, Plain, Among, Step, Part, when, tested, say, Refuse, Do, has_ident, is_free, is_after, Row}
+use Rattle.mq_sc_apply.specs.from_calls.{LogRecord}
+use Rattle.mq_sc_apply.specs.from_codes.ReasonVariants as reasons
+use Rattle.mq_sc_apply.specs.from_resolve.Resolved.{resolve}
+use Rattle.mq_sc_apply.specs.from_calls.DidVariants as did
+use Rattle.mq_sc_apply.specs.from_calls.WhyVariants as whys
+use Rattle.mq_sc_apply.specs.from_calls.LogRecordVariants as records
 use Rattle.mq_heads.specs.Headers.{dlh_in}
-use Rattle.mq_calls.specs.State.Change.{Leave}
+use Rattle.mq_sc_apply.specs.from_calls.State.Change.{Leave}
 use Rattle.mq_spec_manager.specs.Words.{removal_parts, placed, Never}
 use Rattle.mq_spec_manager.specs.Batches.{row_with}
 use Rattle.mq_spec_manager.specs.Landing.{Landing, landing, route_tests}

@@ -1,31 +1,23 @@
 -- MQPUT and MQPUT1.
 use Rattle.std.specs.Prelude.{ℕ, ℤ, pos, negsuc, ◌+◌, ◌*◌, ◌==◌, nat_lt, nat_le, Bool, true, false, not, ◌&&◌, List, [], ◌∷◌, ◌++◌, if◌then◌else◌, Option, Some, None, Result, Ok, Err, length}
 use Rattle.std.specs.List.{list_any, list_all}
-use Rattle.mq_base.specs.Name.{padded, name_of}
-use Rattle.mq_base.specs.declared.fault.NameFault.{NameFault}
-use Rattle.mq_calls.specs.Words.{Reason, Ident, Dest, Md, Message, LocalQueue, Object, Definitions, RouteEnd, PathStep, Route, Plain, Change, is_int, is_persistent, handle_at, depth, put_bytes, more_need, is_full, Step, Part, Test, when, tested, Refuse, Do, queue_of, local_of}
-use Rattle.mq_calls.specs.declared.answers.Hconn.{Hconn}
-use Rattle.mq_calls.specs.declared.answers.Hobj.{Hobj}
-use Rattle.mq_calls.specs.declared.answers.Appl.{Appl}
-use Rattle.mq_calls.specs.declared.answers.Answer.{Answer}
-use Rattle.mq_calls.specs.declared.answers.Sent.{Sent}
-use Rattle.mq_calls.specs.declared.answers.Open.{Open}
-use Rattle.mq_calls.specs.declared.records.LogRecord.{LogRecord}
-use Rattle.mq_calls.specs.declared.state.Connection.{Connection}
-use Rattle.mq_calls.specs.declared.state.Handle.{Handle}
-use Rattle.mq_codes.specs.declared.reason.Reason.TheVariants as reasons
-use Rattle.mq_objects.specs.declared.object.Object.TheVariants as objects
-use Rattle.mq_resolve.specs.declared.route.RouteEnd.TheVariants.{Local, Via}
-use Rattle.mq_resolve.specs.declared.route.PathStep.TheVariants as steps
-use Rattle.mq_resolve.specs.Resolved.{resolve}
-use Rattle.mq_calls.specs.declared.answers.Answer.TheVariants as answers
-use Rattle.mq_calls.specs.declared.answers.Input.TheVariants as inputs
-use Rattle.mq_calls.specs.declared.deltas.Did.TheVariants as did
-use Rattle.mq_calls.specs.declared.records.LogRecord.TheVariants as records
-use Rattle.mq_calls.specs.declared.state.Item.TheVariants.{Put}
-use Rattle.mq_calls.specs.State.Change.{Place, Try, Pend, CountIdent}
-use Rattle.mq_clock.specs.Stamps.{put_date, put_time}
-use Rattle.mq_message.specs.Descriptor.{made_id}
+use Rattle.mq_heads.specs.from_base.Name.{padded, name_of}
+use Rattle.mq_heads.specs.from_base.{NameFault}
+use Rattle.mq_sc_apply.specs.from_calls.Words.{Reason, Ident, Dest, Md, Message, LocalQueue, Object, Definitions, RouteEnd, PathStep, Route, Plain, Change, is_int, is_persistent, handle_at, depth, put_bytes, more_need, is_full, Step, Part, Test, when, tested, Refuse, Do, queue_of, local_of}
+use Rattle.mq_sc_apply.specs.from_calls.{Answer, Appl, Connection, Handle, Hconn, Hobj, LogRecord, Open, Sent}
+use Rattle.mq_sc_apply.specs.from_codes.ReasonVariants as reasons
+use Rattle.mq_sc_apply.specs.from_objects.ObjectVariants as objects
+use Rattle.mq_sc_apply.specs.from_resolve.RouteEndVariants.{Local, Via}
+use Rattle.mq_sc_apply.specs.from_resolve.PathStepVariants as steps
+use Rattle.mq_sc_apply.specs.from_resolve.Resolved.{resolve}
+use Rattle.mq_sc_apply.specs.from_calls.AnswerVariants as answers
+use Rattle.mq_sc_apply.specs.from_calls.InputVariants as inputs
+use Rattle.mq_sc_apply.specs.from_calls.DidVariants as did
+use Rattle.mq_sc_apply.specs.from_calls.LogRecordVariants as records
+use Rattle.mq_sc_apply.specs.from_calls.ItemVariants.{Put}
+use Rattle.mq_sc_apply.specs.from_calls.State.Change.{Place, Try, Pend, CountIdent}
+use Rattle.mq_heads.specs.Stamps.{put_date, put_time}
+use Rattle.mq_heads.specs.from_message.Descriptor.{made_id}
 use Rattle.mq_spec_manager.specs.Heads.{trimmed}
 use Rattle.mq_spec_manager.specs.Handles.{connected, for_connection, for_handle, is_unfit}
 

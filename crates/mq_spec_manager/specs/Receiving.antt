@@ -1,13 +1,11 @@
 -- The commit of a receiver: a batch of messages is placed.
 use Rattle.std.specs.Prelude.{ℕ, Bool, true, false, List, [], ◌∷◌, ◌++◌, if◌then◌else◌, Some, Result, Ok, Err}
-use Rattle.mq_calls.specs.Words.{Reason, Message, receiver_or, Luw, apply_all, receiver_data, is_persistent, is_full, need, Plain, Change, Step, Part, when, tested, Refuse, Do}
-use Rattle.mq_calls.specs.declared.deltas.Did.{Did}
-use Rattle.mq_calls.specs.declared.records.Add.{Add}
-use Rattle.mq_calls.specs.declared.records.LogRecord.{LogRecord}
-use Rattle.mq_codes.specs.declared.reason.Reason.TheVariants as reasons
-use Rattle.mq_calls.specs.declared.deltas.Did.TheVariants as did
-use Rattle.mq_calls.specs.declared.records.LogRecord.TheVariants as records
-use Rattle.mq_calls.specs.State.Change.{SetReceiver}
+use Rattle.mq_sc_apply.specs.from_calls.Words.{Reason, Message, receiver_or, Luw, apply_all, receiver_data, is_persistent, is_full, need, Plain, Change, Step, Part, when, tested, Refuse, Do}
+use Rattle.mq_sc_apply.specs.from_calls.{Add, Did, LogRecord}
+use Rattle.mq_sc_apply.specs.from_codes.ReasonVariants as reasons
+use Rattle.mq_sc_apply.specs.from_calls.DidVariants as did
+use Rattle.mq_sc_apply.specs.from_calls.LogRecordVariants as records
+use Rattle.mq_sc_apply.specs.from_calls.State.Change.{SetReceiver}
 use Rattle.mq_spec_manager.specs.Words.{placed}
 use Rattle.mq_spec_manager.specs.Landing.{Landing, land}
 use Rattle.mq_spec_manager.specs.Standing.{Standing, standing_at, is_present, drop_changes, drop_did}

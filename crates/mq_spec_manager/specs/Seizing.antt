@@ -1,11 +1,10 @@
 -- A sender opens its transmission queue and leaves it; what is kept of a channel; what a sender sees of its queue.
 use Rattle.std.specs.Prelude.{ℕ, nat_lt, Bool, true, false, not, ◌||◌, List, [], ◌∷◌, Option, Some, None, length, filter}
-use Rattle.mq_calls.specs.Words.{Row, local_of, channel_of, Channel, ChannelKind, LocalQueue, ChannelData, ReceiverData, SenderData, Stock, sender_data, receiver_data, is_expired, free_rows, seizure_of, is_open_for_input, has_held_by_other, Plain, Step, when, tested, silent, Do}
-use Rattle.mq_calls.specs.declared.agents.SeizeFault.{SeizeFault}
-use Rattle.mq_calls.specs.declared.state.Seizure.{Seizure}
-use Rattle.mq_objects.specs.declared.object.ChannelKind.TheVariants as kinds
-use Rattle.mq_calls.specs.declared.agents.SeizeFault.TheVariants as seize_faults
-use Rattle.mq_calls.specs.State.Change.{Seize, Unseize, SetBound}
+use Rattle.mq_sc_apply.specs.from_calls.Words.{Row, local_of, channel_of, Channel, ChannelKind, LocalQueue, ChannelData, ReceiverData, SenderData, Stock, sender_data, receiver_data, is_expired, free_rows, seizure_of, is_open_for_input, has_held_by_other, Plain, Step, when, tested, silent, Do}
+use Rattle.mq_sc_apply.specs.from_calls.{SeizeFault, Seizure}
+use Rattle.mq_sc_apply.specs.from_objects.ChannelKindVariants as kinds
+use Rattle.mq_sc_apply.specs.from_calls.SeizeFaultVariants as seize_faults
+use Rattle.mq_sc_apply.specs.from_calls.State.Change.{Seize, Unseize, SetBound}
 use Rattle.mq_spec_manager.specs.Words.{expired_parts, is_transmission_queue, Never}
 
 -- What is kept: the hardened data of the ends here; none where nothing was hardened yet.

@@ -1,15 +1,13 @@
 -- How the ident of a message that a channel brings stands at the manager already.
 use Rattle.std.specs.List.{list_any}
 use Rattle.std.specs.Prelude.{ℕ, nat_lt, Bool, true, false, not, ◌&&◌, ◌||◌, List, [], ◌∷◌, ◌++◌, if◌then◌else◌, Option, Some, None, find, ◌==◌}
-use Rattle.mq_calls.specs.Words.{Ident, Message, Holder, InDoubt, sender_data, is_persistent, in_doubt_of, Plain, Change, Queue, Among, same_ident, has_ident, Row}
-use Rattle.mq_calls.specs.declared.deltas.Did.{Did}
-use Rattle.mq_calls.specs.declared.state.Connection.{Connection}
-use Rattle.mq_calls.specs.declared.state.Item.{Item}
-use Rattle.mq_message.specs.declared.place.Holder.TheVariants as holders
-use Rattle.mq_calls.specs.declared.deltas.Did.TheVariants as did
-use Rattle.mq_calls.specs.declared.deltas.Why.TheVariants as whys
-use Rattle.mq_calls.specs.declared.state.Item.TheVariants.{Put as ItemPut, Take as ItemTake}
-use Rattle.mq_calls.specs.State.Change.{Leave, Undoubt}
+use Rattle.mq_sc_apply.specs.from_calls.Words.{Ident, Message, Holder, InDoubt, sender_data, is_persistent, in_doubt_of, Plain, Change, Queue, Among, same_ident, has_ident, Row}
+use Rattle.mq_sc_apply.specs.from_calls.{Connection, Did, Item}
+use Rattle.mq_heads.specs.from_message.HolderVariants as holders
+use Rattle.mq_sc_apply.specs.from_calls.DidVariants as did
+use Rattle.mq_sc_apply.specs.from_calls.WhyVariants as whys
+use Rattle.mq_sc_apply.specs.from_calls.ItemVariants.{Put as ItemPut, Take as ItemTake}
+use Rattle.mq_sc_apply.specs.from_calls.State.Change.{Leave, Undoubt}
 
 -- How an ident stands at the manager. A message that comes back to the row of a unit in doubt drops that row, where both
 -- last or neither does; one that stands otherwise is kept out.

@@ -1,22 +1,15 @@
 -- First start, stop, restart, cut, clock.
 use Rattle.std.specs.Prelude.{◌≡◌, ℕ, ◌+◌, ◌-◌, ◌*◌, ◌<◌, ◌≤◌, ◌⊎◌, min, filter, Bool, true, false, List, [], ◌∷◌, ◌++◌, Option, Some, None, map}
-use Rattle.mq_message.specs.declared.place.Holder.TheVariants as holders
-use Rattle.mq_calls.specs.Words.{Ident, Plain, Given, Change, Noted, Running, LogState, HeldBy, HeldByUnits, Nonpersistent, Up, Down, apply_all, lasting, begun, raised, stands, need, After, stands_in, calls_of_write, same_ident}
-use Rattle.mq_calls.specs.declared.choices.Return.{Return}
-use Rattle.mq_calls.specs.declared.commands.RestartFault.{RestartFault}
-use Rattle.mq_calls.specs.declared.commands.Kept.{Kept}
-use Rattle.mq_calls.specs.declared.deltas.Did.{Did}
-use Rattle.mq_calls.specs.declared.records.Add.{Add}
-use Rattle.mq_calls.specs.declared.records.LogRecord.{LogRecord}
-use Rattle.mq_calls.specs.declared.state.Batch.{Batch}
-use Rattle.mq_calls.specs.declared.image.Image.{Image}
-use Rattle.mq_calls.specs.declared.choices.Return.TheVariants.{Comes, Fails}
-use Rattle.mq_calls.specs.declared.commands.RestartFault.TheVariants as faults
+use Rattle.mq_heads.specs.from_message.HolderVariants as holders
+use Rattle.mq_sc_apply.specs.from_calls.Words.{Ident, Plain, Given, Change, Noted, Running, LogState, HeldBy, HeldByUnits, Nonpersistent, Up, Down, apply_all, lasting, begun, raised, stands, need, After, stands_in, calls_of_write, same_ident}
+use Rattle.mq_sc_apply.specs.from_calls.{Add, Batch, Did, Image, Kept, LogRecord, RestartFault, Return}
+use Rattle.mq_sc_apply.specs.from_calls.ReturnVariants.{Comes, Fails}
+use Rattle.mq_sc_apply.specs.from_calls.RestartFaultVariants as faults
 use Rattle.std.specs.List.{list_any}
-use Rattle.mq_calls.specs.declared.deltas.Did.TheVariants as did
-use Rattle.mq_calls.specs.declared.records.LogRecord.TheVariants as records
-use Rattle.mq_calls.specs.State.Change.{Release, Leave, ForgetAll}
-use Rattle.mq_calls.specs.Steps.Outcome.{Answered, Refused, Wanting}
+use Rattle.mq_sc_apply.specs.from_calls.DidVariants as did
+use Rattle.mq_sc_apply.specs.from_calls.LogRecordVariants as records
+use Rattle.mq_sc_apply.specs.from_calls.State.Change.{Release, Leave, ForgetAll}
+use Rattle.mq_sc_apply.specs.from_calls.Steps.Outcome.{Answered, Refused, Wanting}
 
 -- What a stop does: units are backed out, batches that are not prepared are released, nonpersistent rows go.
 abbrev pub release_batch : Batch → Change

@@ -1,11 +1,11 @@
 -- A trigger turn: the first queue with a trigger due is served.
 use Rattle.std.specs.Prelude.{ℕ, pos, nat_lt, Bool, true, false, List, [], ◌∷◌, if◌then◌else◌, Option, Some, None, codes}
-use Rattle.mq_calls.specs.Words.{Reason, Ident, Message, LocalQueue, Process, Route, Plain, stored, is_up, Step, Part, refusal, say, silent, Do, local_of, locals_of, process_of, is_transmission}
-use Rattle.mq_resolve.specs.declared.route.RouteEnd.TheVariants.{Local}
-use Rattle.mq_resolve.specs.declared.route.PathStep.TheVariants as steps
-use Rattle.mq_calls.specs.declared.deltas.Did.TheVariants as did
-use Rattle.mq_calls.specs.State.Change.{Place, CountIdent, Serve}
-use Rattle.mq_clock.specs.Stamps.{put_date, put_time}
+use Rattle.mq_sc_apply.specs.from_calls.Words.{Reason, Ident, Message, LocalQueue, Process, Route, Plain, stored, is_up, Step, Part, refusal, say, silent, Do, local_of, locals_of, process_of, is_transmission}
+use Rattle.mq_sc_apply.specs.from_resolve.RouteEndVariants.{Local}
+use Rattle.mq_sc_apply.specs.from_resolve.PathStepVariants as steps
+use Rattle.mq_sc_apply.specs.from_calls.DidVariants as did
+use Rattle.mq_sc_apply.specs.from_calls.State.Change.{Place, CountIdent, Serve}
+use Rattle.mq_heads.specs.Stamps.{put_date, put_time}
 use Rattle.mq_heads.specs.Headers.{tm_bytes}
 use Rattle.mq_spec_manager.specs.Heads.{tm_of, own_md}
 use Rattle.mq_spec_manager.specs.Put.{next_ident, placing_tests}

@@ -1,20 +1,13 @@
 -- The ends of units: MQCMIT, MQBACK, MQDISC.
 use Rattle.std.specs.Prelude.{true, List, [], ◌∷◌, ◌++◌, if◌then◌else◌, Option, Some, None, flat_map}
-use Rattle.mq_calls.specs.Words.{Reason, Plain, Change, Among, is_persistent, Step, Part, Do}
-use Rattle.mq_calls.specs.declared.answers.Hconn.{Hconn}
-use Rattle.mq_calls.specs.declared.answers.Answer.{Answer}
-use Rattle.mq_calls.specs.declared.deltas.Did.{Did}
-use Rattle.mq_calls.specs.declared.records.Add.{Add}
-use Rattle.mq_calls.specs.declared.records.Remove.{Remove}
-use Rattle.mq_calls.specs.declared.records.LogRecord.{LogRecord}
-use Rattle.mq_calls.specs.declared.state.Connection.{Connection}
-use Rattle.mq_calls.specs.declared.state.Item.{Item}
-use Rattle.mq_calls.specs.declared.answers.Answer.TheVariants as answers
-use Rattle.mq_calls.specs.declared.deltas.Did.TheVariants as did
-use Rattle.mq_calls.specs.declared.deltas.Why.TheVariants as reasons_gone
-use Rattle.mq_calls.specs.declared.records.LogRecord.TheVariants as records
-use Rattle.mq_calls.specs.declared.state.Item.TheVariants.{Put, Take}
-use Rattle.mq_calls.specs.State.Change.{Leave, Release, EndUnit, Disconnect}
+use Rattle.mq_sc_apply.specs.from_calls.Words.{Reason, Plain, Change, Among, is_persistent, Step, Part, Do}
+use Rattle.mq_sc_apply.specs.from_calls.{Add, Answer, Connection, Did, Hconn, Item, LogRecord, Remove}
+use Rattle.mq_sc_apply.specs.from_calls.AnswerVariants as answers
+use Rattle.mq_sc_apply.specs.from_calls.DidVariants as did
+use Rattle.mq_sc_apply.specs.from_calls.WhyVariants as reasons_gone
+use Rattle.mq_sc_apply.specs.from_calls.LogRecordVariants as records
+use Rattle.mq_sc_apply.specs.from_calls.ItemVariants.{Put, Take}
+use Rattle.mq_sc_apply.specs.from_calls.State.Change.{Leave, Release, EndUnit, Disconnect}
 use Rattle.mq_spec_manager.specs.Handles.{connected, for_connection}
 use Rattle.mq_spec_manager.specs.Put.{placed}
 

@@ -1,10 +1,9 @@
 -- How a body meets MQGET. One that may still wait takes no memory: want of it is no answer there, it waits.
 use Rattle.std.specs.Prelude.{Result}
-use Rattle.mq_calls.specs.Words.{Reason, Plain, Step, Refuse, Do, ManagerValue, Wants, MeetsAs}
-use Rattle.mq_calls.specs.declared.answers.GetAnswer.{GetAnswer}
-use Rattle.mq_calls.specs.Meeting.Wants.{Nowhere, Behind}
-use Rattle.mq_calls.specs.declared.answers.GetAnswer.TheVariants.{NotYet, Done}
-use Rattle.mq_calls.specs.declared.commands.Halt.{Halt}
+use Rattle.mq_sc_apply.specs.from_calls.Words.{Reason, Plain, Step, Refuse, Do, ManagerValue, Wants, MeetsAs}
+use Rattle.mq_sc_apply.specs.from_calls.{GetAnswer, Halt}
+use Rattle.mq_sc_apply.specs.from_calls.Meeting.Wants.{Nowhere, Behind}
+use Rattle.mq_sc_apply.specs.from_calls.GetAnswerVariants.{NotYet, Done}
 
 -- where it may find no memory: behind all refusals, and not where it would wait
 abbrev pub get_wants : Step Reason GetAnswer → Wants

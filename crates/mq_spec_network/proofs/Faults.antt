@@ -1,18 +1,17 @@
 -- What scripted faults make of offered frames, and what a cable carries, computed.
 use Rattle.std.specs.Prelude.{◌≡◌, ◌≤◌, ℕ, ◌+◌, max, true, false, List, [], ◌∷◌, ◌++◌, Some, None, refl}
 use Rattle.std.proofs.Common.{ap, sym, ◌∙◌, arith, inl, inr}
-use Rattle.mq_calls.specs.declared.choices.Choice.TheVariants.{Runs}
-use Rattle.mq_frame.specs.declared.frame.Frame.{Frame}
-use Rattle.mq_frame.specs.declared.frame.FrameKind.TheVariants.{Ack}
-use Rattle.mq_frame.specs.declared.frame.Seen.{Seen}
-use Rattle.mq_frame.specs.declared.frame.Seen.TheVariants as items
-use Rattle.mq_history.specs.declared.calls.Actor.TheVariants as actors
-use Rattle.mq_history.specs.declared.calls.Call.TheVariants as calls
-use Rattle.mq_history.specs.declared.calls.Chance.TheVariants as chances
-use Rattle.mq_history.specs.declared.calls.Reply.TheVariants as replies
-use Rattle.mq_history.specs.declared.calls.Entry.{Entry}
-use Rattle.mq_cable.specs.declared.fault.Fault.TheVariants.{Drop, Late, Copy, Spoil}
-use Rattle.mq_cable.specs.Faults.{Offer, Within}
+use Rattle.mq_spec_node.specs.from_calls.ChoiceVariants.{Runs}
+use Rattle.mq_spec_node.specs.from_frame.{Frame, Seen}
+use Rattle.mq_spec_node.specs.from_frame.FrameKindVariants.{Ack}
+use Rattle.mq_spec_node.specs.from_frame.SeenVariants as items
+use Rattle.mq_spec_node.specs.from_history.ActorVariants as actors
+use Rattle.mq_spec_node.specs.from_history.CallVariants as calls
+use Rattle.mq_spec_node.specs.from_history.ChanceVariants as chances
+use Rattle.mq_spec_node.specs.from_history.ReplyVariants as replies
+use Rattle.mq_spec_node.specs.from_history.{Entry}
+use Rattle.mq_spec_node.specs.from_cable.FaultVariants.{Drop, Late, Copy, Spoil}
+use Rattle.mq_spec_node.specs.from_cable.Faults.{Offer, Within}
 use Rattle.mq_spec_node.specs.Doers.{is_receiver}
 use Rattle.mq_spec_network.specs.Cables.{Lying, Carries, Takes, made, whole, spoiled, lying, is_popped}
 

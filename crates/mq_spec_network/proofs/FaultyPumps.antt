@@ -1,14 +1,13 @@
 -- PUMPs over a cable that copies, spoils or delays its first frame, which is BIND.
 use Rattle.std.specs.Prelude.{◌≡◌, true, false, List, [], ◌∷◌, refl}
-use Rattle.mq_frame.specs.declared.frame.Frame.{Frame}
-use Rattle.mq_frame.specs.declared.frame.FrameKind.TheVariants.{Bind}
-use Rattle.mq_frame.specs.declared.frame.Seen.TheVariants as items
-use Rattle.mq_history.specs.declared.calls.Actor.TheVariants as actors
-use Rattle.mq_history.specs.declared.calls.Call.TheVariants as calls
-use Rattle.mq_history.specs.declared.calls.Entry.{Entry}
-use Rattle.mq_history.specs.declared.scenario.CableLine.{CableLine}
-use Rattle.mq_cable.specs.declared.fault.Fault.TheVariants.{Late, Copy, Spoil}
-use Rattle.mq_history.specs.declared.scenario.Step.TheVariants as steps
+use Rattle.mq_spec_node.specs.from_frame.{Frame}
+use Rattle.mq_spec_node.specs.from_frame.FrameKindVariants.{Bind}
+use Rattle.mq_spec_node.specs.from_frame.SeenVariants as items
+use Rattle.mq_spec_node.specs.from_history.ActorVariants as actors
+use Rattle.mq_spec_node.specs.from_history.CallVariants as calls
+use Rattle.mq_spec_node.specs.from_history.{CableLine, Entry}
+use Rattle.mq_spec_node.specs.from_cable.FaultVariants.{Late, Copy, Spoil}
+use Rattle.mq_spec_node.specs.from_history.StepVariants as steps
 use Rattle.mq_spec_node.specs.Node.{Node}
 use Rattle.mq_spec_network.specs.Cables.{whole}
 use Rattle.mq_spec_network.specs.Turns.{Network, does, is_idle, out_of}

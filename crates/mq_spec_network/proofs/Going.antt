@@ -1,7 +1,7 @@
 -- A step goes on: from what was done, by an entry more with its trigger turns, or past a task; parts after parts.
 use Rattle.std.specs.Prelude.{◌≡◌, ℕ, ◌==◌, Bool, true, false, List, [], ◌∷◌, ◌++◌, if◌then◌else◌, refl}
 use Rattle.std.proofs.Common.{ap, subst, sym, append_assoc, append-nil}
-use Rattle.mq_history.specs.declared.calls.Entry.{Entry}
+use Rattle.mq_spec_node.specs.from_history.{Entry}
 use Rattle.mq_spec_network.specs.Turns.{Network, does, more_at}
 use Rattle.mq_spec_network.specs.Tasks.{Task}
 use Rattle.mq_spec_network.specs.Steps.{Goes, Moves, AreTriggers, left_by}

@@ -3,12 +3,9 @@ use Rattle.std.specs.Prelude.{◌≡◌, ℕ, zero, suc, ◌==◌, Bool, true, f
 use Rattle.std.proofs.Common.{ap, subst, sym, arith, ◌∙◌}
 use Rattle.std.proofs.lemmas.Bool.Decides.{nat_tests}
 use Rattle.std.proofs.lemmas.List.Elements.{filter-append}
-use Rattle.mq_history.specs.declared.calls.Actor.TheVariants as actors
-use Rattle.mq_history.specs.declared.calls.Call.{Call}
-use Rattle.mq_history.specs.declared.calls.Entry.{Entry}
-use Rattle.mq_history.specs.declared.scenario.ScriptPart.{ScriptPart}
-use Rattle.mq_history.specs.declared.scripts.ScriptLine.{ScriptLine}
-use Rattle.mq_history.specs.declared.scripts.ScriptLine.TheVariants as lines
+use Rattle.mq_spec_node.specs.from_history.ActorVariants as actors
+use Rattle.mq_spec_node.specs.from_history.{Call, Entry, ScriptLine, ScriptPart}
+use Rattle.mq_spec_node.specs.from_history.ScriptLineVariants as lines
 use Rattle.mq_spec_node.specs.Scripts.{Memory, line_call, remembers, until_of}
 use Rattle.mq_spec_network.specs.Turns.{Network, does}
 use Rattle.mq_spec_node.specs.Doers.{is_trigger, mains, is_script}
@@ -54,7 +51,7 @@ length_more : (xs : List Entry) (e : Entry) → length (xs ++ e ∷ []) ≡ suc 
 length_more [] e = refl
 length_more (x ∷ xs) e = ap suc (length_more xs e)
 
-drop_more : (n : ℕ) (ls : List ScriptLine) → drop (suc n) ls ≡ drop 1 (drop n ls)
+pub drop_more : (n : ℕ) (ls : List ScriptLine) → drop (suc n) ls ≡ drop 1 (drop n ls)
 drop_more zero ls = refl
 drop_more (suc n) [] = refl
 drop_more (suc n) (l ∷ ls) = drop_more n ls

@@ -3,31 +3,21 @@
 use Rattle.std.specs.Prelude.{◌≡◌, ◌≢◌, ◌<◌, ◌≤◌, ℕ, zero, suc, ◌==◌, pos, negsuc, false, List, [], ◌∷◌, Option, Some, None, slice_get, drop, replicate, length, take, map, codes, refl}
 use Rattle.std.proofs.Common.{ap, subst, arith, ◌∙◌}
 use Rattle.std.proofs.lemmas.Bool.Decides.{nat_tests}
-use Rattle.mq_queue.specs.declared.row.Row.{Row}
-use Rattle.mq_objects.specs.declared.command.Subject.TheVariants as subjects
-use Rattle.mq_objects.specs.declared.command.Command.TheVariants as object_commands
-use Rattle.mq_calls.specs.declared.answers.Take.TheVariants as takes
-use Rattle.mq_frame.specs.declared.frame.Seen.TheVariants as items
-use Rattle.mq_history.specs.declared.acts.Act.TheVariants as acts
-use Rattle.mq_sc_parse.specs.declared.command.Command.{Command}
-use Rattle.mq_sc_parse.specs.declared.command.Command.TheVariants as commands
-use Rattle.mq_history.specs.declared.calls.Actor.{Actor}
-use Rattle.mq_history.specs.declared.calls.Actor.TheVariants as actors
-use Rattle.mq_history.specs.declared.calls.Call.{Call}
-use Rattle.mq_history.specs.declared.calls.Call.TheVariants as calls
-use Rattle.mq_history.specs.declared.calls.Entry.{Entry}
-use Rattle.mq_history.specs.declared.history.History.{History}
-use Rattle.mq_history.specs.declared.history.Mark.{Mark}
-use Rattle.mq_history.specs.declared.scenario.CableLine.{CableLine}
-use Rattle.mq_history.specs.declared.scenario.ScriptPart.{ScriptPart}
-use Rattle.mq_history.specs.declared.scenario.Scenario.{Scenario}
-use Rattle.mq_history.specs.declared.scenario.Step.TheVariants as steps
-use Rattle.mq_history.specs.declared.scripts.Body.TheVariants as bodies
-use Rattle.mq_history.specs.declared.scripts.GetOptions.{GetOptions}
-use Rattle.mq_history.specs.declared.scripts.PutOptions.{PutOptions}
-use Rattle.mq_history.specs.declared.scripts.ScriptLine.{ScriptLine}
-use Rattle.mq_history.specs.declared.scripts.ScriptLine.TheVariants as lines
-use Rattle.mq_spec_manager.proofs.Script.{connection, handle, shared_output, ident_numbers}
+use Rattle.mq_spec_node.specs.from_queue.{Row}
+use Rattle.mq_spec_node.specs.from_objects.SubjectVariants as subjects
+use Rattle.mq_spec_node.specs.from_objects.CommandVariants as object_commands
+use Rattle.mq_spec_node.specs.from_calls.TakeVariants as takes
+use Rattle.mq_spec_node.specs.from_frame.SeenVariants as items
+use Rattle.mq_spec_node.specs.from_history.ActVariants as acts
+use Rattle.mq_spec_node.specs.from_sc_parse.{Command}
+use Rattle.mq_spec_node.specs.from_sc_parse.CommandVariants as commands
+use Rattle.mq_spec_node.specs.from_history.{Actor, CableLine, Call, Entry, GetOptions, History, Mark, PutOptions, Scenario, ScriptLine, ScriptPart}
+use Rattle.mq_spec_node.specs.from_history.ActorVariants as actors
+use Rattle.mq_spec_node.specs.from_history.CallVariants as calls
+use Rattle.mq_spec_node.specs.from_history.StepVariants as steps
+use Rattle.mq_spec_node.specs.from_history.BodyVariants as bodies
+use Rattle.mq_spec_node.specs.from_history.ScriptLineVariants as lines
+use Rattle.mq_spec_node.proofs.from_spec_manager.Script.{connection, handle, shared_output, ident_numbers}
 use Rattle.mq_spec_node.specs.Node.{Node}
 use Rattle.mq_spec_node.specs.Happens.{event}
 use Rattle.mq_spec_node.specs.Replays.{NoneForeign, opening_node}

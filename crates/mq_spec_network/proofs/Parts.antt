@@ -2,8 +2,8 @@
 use Rattle.std.specs.Prelude.{◌≡◌, ℕ, ◌==◌, true, false, List, [], ◌∷◌, ◌++◌, if◌then◌else◌, None, refl}
 use Rattle.std.proofs.Common.{ap, subst, sym, arith, inl, inr, ◌⊎◌, ◌∙◌}
 use Rattle.std.proofs.lemmas.Bool.Decides.{nat_tests}
-use Rattle.mq_history.specs.declared.calls.Call.TheVariants as calls
-use Rattle.mq_history.specs.declared.calls.Entry.{Entry}
+use Rattle.mq_spec_node.specs.from_history.CallVariants as calls
+use Rattle.mq_spec_node.specs.from_history.{Entry}
 use Rattle.mq_spec_network.specs.Turns.{Network, more_at}
 use Rattle.mq_spec_node.specs.Lines.{left_after}
 use Rattle.mq_spec_network.specs.Tasks.{Task}

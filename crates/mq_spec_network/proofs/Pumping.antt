@@ -1,17 +1,12 @@
 -- A PUMP over a cable that drops its first frame: the session is hardened, BIND is offered and lost, and after a round of
 -- none comes the timeout.
 use Rattle.std.specs.Prelude.{◌≡◌, ℕ, true, false, List, [], ◌∷◌, Some, None, refl, codes}
-use Rattle.mq_frame.specs.declared.frame.Seen.TheVariants as items
-use Rattle.mq_history.specs.declared.calls.Actor.{Actor}
-use Rattle.mq_history.specs.declared.calls.Actor.TheVariants as actors
-use Rattle.mq_history.specs.declared.calls.Call.{Call}
-use Rattle.mq_history.specs.declared.calls.Call.TheVariants as calls
-use Rattle.mq_history.specs.declared.calls.Entry.{Entry}
-use Rattle.mq_history.specs.declared.history.History.{History}
-use Rattle.mq_history.specs.declared.scenario.CableLine.{CableLine}
-use Rattle.mq_cable.specs.declared.fault.Fault.TheVariants.{Drop}
-use Rattle.mq_history.specs.declared.scenario.Scenario.{Scenario}
-use Rattle.mq_history.specs.declared.scenario.Step.TheVariants as steps
+use Rattle.mq_spec_node.specs.from_frame.SeenVariants as items
+use Rattle.mq_spec_node.specs.from_history.{Actor, CableLine, Call, Entry, History, Scenario}
+use Rattle.mq_spec_node.specs.from_history.ActorVariants as actors
+use Rattle.mq_spec_node.specs.from_history.CallVariants as calls
+use Rattle.mq_spec_node.specs.from_cable.FaultVariants.{Drop}
+use Rattle.mq_spec_node.specs.from_history.StepVariants as steps
 use Rattle.mq_spec_node.specs.Node.{Node}
 use Rattle.mq_spec_node.specs.Happens.{event}
 use Rattle.mq_spec_node.specs.Replays.{opening_node}

@@ -1,7 +1,7 @@
 -- Turns of a pump, taken or skipped, as its worked rows have them.
 use Rattle.std.specs.Prelude.{◌≡◌, ℕ, zero, suc, Bool, true, List, [], ◌∷◌, ◌++◌, Option, None, slice_get, refl}
 use Rattle.std.proofs.Common.{ap, inl, inr}
-use Rattle.mq_history.specs.declared.calls.Entry.{Entry}
+use Rattle.mq_spec_node.specs.from_history.{Entry}
 use Rattle.mq_spec_node.specs.Node.{Node}
 use Rattle.mq_spec_network.specs.Turns.{Network, node_of, node_at, does, is_idle}
 use Rattle.mq_spec_network.specs.Tasks.{Task, Slot}

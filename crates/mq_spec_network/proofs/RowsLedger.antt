@@ -1,23 +1,22 @@
 -- The ledger, computed: at a receiver's commit it places its own row; a RESTART that is refused leaves it.
 use Rattle.std.specs.Prelude.{◌≡◌, ℕ, pos, List, [], ◌∷◌, Some, None, map, codes, refl}
-use Rattle.mq_frame.specs.declared.frame.Seen.TheVariants as items
-use Rattle.mq_message.specs.declared.message.Message.{Message}
-use Rattle.mq_objects.specs.declared.object.Object.{Object}
-use Rattle.mq_objects.specs.declared.command.Subject.TheVariants as subjects
-use Rattle.mq_objects.specs.Defaults.{new_manager}
-use Rattle.mq_queue.specs.declared.row.Row.{Row}
-use Rattle.mq_calls.specs.declared.choices.Return.{Return}
-use Rattle.mq_calls.specs.declared.commands.RestartFault.TheVariants as faults
-use Rattle.mq_history.specs.declared.acts.Act.TheVariants as acts
-use Rattle.mq_history.specs.declared.acts.Acted.TheVariants as acted
-use Rattle.mq_history.specs.declared.calls.Actor.TheVariants as actors
-use Rattle.mq_history.specs.declared.calls.Call.TheVariants as calls
-use Rattle.mq_history.specs.declared.calls.Chance.TheVariants as chances
-use Rattle.mq_history.specs.declared.calls.Entry.{Entry}
-use Rattle.mq_history.specs.declared.calls.Reply.TheVariants as replies
-use Rattle.mq_history.specs.declared.story.ManagerPlaces.{ManagerPlaces}
-use Rattle.mq_spec_manager.specs.Commands.{defined_object}
-use Rattle.mq_spec_manager.proofs.Script.{script_md}
+use Rattle.mq_spec_node.specs.from_frame.SeenVariants as items
+use Rattle.mq_spec_node.specs.from_message.{Message}
+use Rattle.mq_spec_node.specs.from_objects.{Object}
+use Rattle.mq_spec_node.specs.from_objects.SubjectVariants as subjects
+use Rattle.mq_spec_node.specs.from_objects.Defaults.{new_manager}
+use Rattle.mq_spec_node.specs.from_queue.{Row}
+use Rattle.mq_spec_node.specs.from_calls.{Return}
+use Rattle.mq_spec_node.specs.from_calls.RestartFaultVariants as faults
+use Rattle.mq_spec_node.specs.from_history.ActVariants as acts
+use Rattle.mq_spec_node.specs.from_history.ActedVariants as acted
+use Rattle.mq_spec_node.specs.from_history.ActorVariants as actors
+use Rattle.mq_spec_node.specs.from_history.CallVariants as calls
+use Rattle.mq_spec_node.specs.from_history.ChanceVariants as chances
+use Rattle.mq_spec_node.specs.from_history.{Entry, ManagerPlaces}
+use Rattle.mq_spec_node.specs.from_history.ReplyVariants as replies
+use Rattle.mq_spec_node.specs.from_spec_manager.Commands.{defined_object}
+use Rattle.mq_spec_node.proofs.from_spec_manager.Script.{script_md}
 use Rattle.mq_spec_network.specs.Ledger.{Ledger, no_users, place, receive, posted, ledger_rows}
 
 -- A message of LONDON's, with this body.

@@ -1,26 +1,20 @@
 -- A monitor that is served: a put triggers its queue, the monitor's get begins the script that the trigger message names,
 -- and that script runs to its end.
 use Rattle.std.specs.Prelude.{◌≡◌, ℕ, true, false, List, [], ◌∷◌, Some, None, codes, refl}
-use Rattle.mq_heads.specs.Headers.{tm_read, tm_bytes, tm_in}
-use Rattle.mq_message.specs.Layout.{long_bytes, long_of}
-use Rattle.mq_objects.specs.declared.object.Object.{Object}
-use Rattle.mq_objects.specs.declared.object.TriggerType.TheVariants as triggers
-use Rattle.mq_objects.specs.declared.setting.Setting.TheVariants as settings
-use Rattle.mq_objects.specs.declared.command.Subject.TheVariants as subjects
-use Rattle.mq_frame.specs.declared.frame.Seen.TheVariants as items
-use Rattle.mq_history.specs.declared.calls.Actor.{Actor}
-use Rattle.mq_history.specs.declared.calls.Actor.TheVariants as actors
-use Rattle.mq_history.specs.declared.calls.Call.{Call}
-use Rattle.mq_history.specs.declared.calls.Call.TheVariants as calls
-use Rattle.mq_history.specs.declared.calls.Entry.{Entry}
-use Rattle.mq_history.specs.declared.history.History.{History}
-use Rattle.mq_history.specs.declared.scenario.MonitorLine.{MonitorLine}
-use Rattle.mq_history.specs.declared.scenario.ScriptPart.{ScriptPart}
-use Rattle.mq_history.specs.declared.scenario.Scenario.{Scenario}
-use Rattle.mq_history.specs.declared.scenario.Step.TheVariants as steps
-use Rattle.mq_history.specs.declared.scripts.ScriptLine.TheVariants as lines
-use Rattle.mq_spec_manager.specs.Commands.{defined_object}
-use Rattle.mq_spec_manager.proofs.Script.{connection, handle, plain_md}
+use Rattle.mq_spec_node.specs.from_heads.Headers.{tm_read, tm_bytes, tm_in}
+use Rattle.mq_spec_node.specs.from_message.Layout.{long_bytes, long_of}
+use Rattle.mq_spec_node.specs.from_objects.{Object}
+use Rattle.mq_spec_node.specs.from_objects.TriggerTypeVariants as triggers
+use Rattle.mq_spec_node.specs.from_objects.SettingVariants as settings
+use Rattle.mq_spec_node.specs.from_objects.SubjectVariants as subjects
+use Rattle.mq_spec_node.specs.from_frame.SeenVariants as items
+use Rattle.mq_spec_node.specs.from_history.{Actor, Call, Entry, History, MonitorLine, Scenario, ScriptPart}
+use Rattle.mq_spec_node.specs.from_history.ActorVariants as actors
+use Rattle.mq_spec_node.specs.from_history.CallVariants as calls
+use Rattle.mq_spec_node.specs.from_history.StepVariants as steps
+use Rattle.mq_spec_node.specs.from_history.ScriptLineVariants as lines
+use Rattle.mq_spec_node.specs.from_spec_manager.Commands.{defined_object}
+use Rattle.mq_spec_node.proofs.from_spec_manager.Script.{connection, handle, plain_md}
 use Rattle.mq_spec_node.specs.Node.{Node}
 use Rattle.mq_spec_node.specs.Happens.{event}
 use Rattle.mq_spec_node.specs.Replays.{opening_node}

@@ -1,21 +1,18 @@
 -- A lost acknowledgement, and what an operator makes of it: story, ledger, standing rows and conflict, computed.
 use Rattle.std.specs.Prelude.{◌≡◌, ℕ, true, false, List, [], ◌∷◌, Option, Some, None, map, reverse, codes, refl}
-use Rattle.mq_queue.specs.declared.row.Row.{Row}
-use Rattle.mq_calls.specs.declared.answers.Open.{Open}
-use Rattle.mq_calls.specs.declared.answers.Input.TheVariants as inputs
-use Rattle.mq_sync.specs.declared.unit.Settle.{Settle}
-use Rattle.mq_sync.specs.declared.unit.Settle.TheVariants as settles
-use Rattle.mq_history.specs.declared.acts.Act.TheVariants as acts
-use Rattle.mq_sc_parse.specs.declared.command.Command.TheVariants as commands
-use Rattle.mq_sc_parse.specs.declared.command.Op.TheVariants as ops
-use Rattle.mq_history.specs.declared.calls.Actor.TheVariants as actors
-use Rattle.mq_history.specs.declared.calls.Call.{Call}
-use Rattle.mq_history.specs.declared.calls.Call.TheVariants as calls
-use Rattle.mq_history.specs.declared.history.History.{History}
-use Rattle.mq_history.specs.declared.scenario.Scenario.{Scenario}
-use Rattle.mq_history.specs.declared.story.Conflict.{Conflict}
-use Rattle.mq_calls.specs.Reads.{stored, depth}
-use Rattle.mq_spec_manager.proofs.Script.{connection, handle, script_appl, persistent_md, ident_numbers}
+use Rattle.mq_spec_node.specs.from_queue.{Row}
+use Rattle.mq_spec_node.specs.from_calls.{Open}
+use Rattle.mq_spec_node.specs.from_calls.InputVariants as inputs
+use Rattle.mq_spec_node.specs.from_sync.{Settle}
+use Rattle.mq_spec_node.specs.from_sync.SettleVariants as settles
+use Rattle.mq_spec_node.specs.from_history.ActVariants as acts
+use Rattle.mq_spec_node.specs.from_sc_parse.CommandVariants as commands
+use Rattle.mq_spec_node.specs.from_sc_parse.OpVariants as ops
+use Rattle.mq_spec_node.specs.from_history.ActorVariants as actors
+use Rattle.mq_spec_node.specs.from_history.{Call, Conflict, History, Scenario}
+use Rattle.mq_spec_node.specs.from_history.CallVariants as calls
+use Rattle.mq_spec_node.specs.from_calls.Reads.{stored, depth}
+use Rattle.mq_spec_node.proofs.from_spec_manager.Script.{connection, handle, script_appl, persistent_md, ident_numbers}
 use Rattle.mq_spec_node.proofs.Pair.{Pair, pair, london, paris, at_london, at_paris, image, channel, at_sender, runs, rounds, turns, operate, start, stop_channel}
 use Rattle.mq_spec_network.specs.Story.{Line, weave}
 use Rattle.mq_spec_network.specs.Ledger.{ledger, ledger_rows}

@@ -1,8 +1,7 @@
 -- How far a run is: at its start, further within a step, at a step's end.
 use Rattle.std.specs.Prelude.{ℕ, List, [], ◌∷◌, ◌++◌, refl}
 use Rattle.std.proofs.Common.{sym, append_assoc, ◌∙◌}
-use Rattle.mq_history.specs.declared.history.Mark.{Mark}
-use Rattle.mq_history.specs.declared.scenario.Step.{Step}
+use Rattle.mq_spec_node.specs.from_history.{Mark, Step}
 use Rattle.mq_spec_network.specs.Turns.{Network}
 use Rattle.mq_spec_network.specs.Tasks.{Task, tasks_next}
 use Rattle.mq_spec_network.specs.Steps.{Goes, Served}

@@ -2,7 +2,7 @@
 use Rattle.std.specs.Prelude.{◌≡◌, ◌<◌, ◌≤◌, ℕ, zero, suc, ◌==◌, true, false, List, [], ◌∷◌, refl}
 use Rattle.std.proofs.Common.{subst, sym, arith, inl, inr, ◌∙◌}
 use Rattle.std.proofs.lemmas.Bool.Decides.{nat_tests}
-use Rattle.mq_history.specs.declared.calls.Entry.{Entry}
+use Rattle.mq_spec_node.specs.from_history.{Entry}
 use Rattle.mq_spec_network.specs.Turns.{Network, does}
 use Rattle.mq_spec_network.specs.Tasks.{Task, Trying}
 use Rattle.mq_spec_network.specs.Tasks.Task.{Phase}

@@ -1,25 +1,18 @@
 -- A RUN whose get waits: the clock of each manager advances to its deadline, and then it comes.
 use Rattle.std.specs.Prelude.{◌≡◌, ℕ, false, List, [], ◌∷◌, Some, None, codes, refl}
 use Rattle.std.proofs.Common.{sym, ◌∙◌}
-use Rattle.mq_objects.specs.declared.object.Object.{Object}
-use Rattle.mq_objects.specs.declared.command.Subject.TheVariants as subjects
-use Rattle.mq_calls.specs.declared.answers.Take.TheVariants as takes
-use Rattle.mq_frame.specs.declared.frame.Seen.TheVariants as items
-use Rattle.mq_history.specs.declared.acts.Act.TheVariants as acts
-use Rattle.mq_history.specs.declared.calls.Actor.{Actor}
-use Rattle.mq_history.specs.declared.calls.Actor.TheVariants as actors
-use Rattle.mq_history.specs.declared.calls.Call.{Call}
-use Rattle.mq_history.specs.declared.calls.Call.TheVariants as calls
-use Rattle.mq_history.specs.declared.calls.Entry.{Entry}
-use Rattle.mq_history.specs.declared.history.History.{History}
-use Rattle.mq_history.specs.declared.scenario.ScriptPart.{ScriptPart}
-use Rattle.mq_history.specs.declared.scenario.Scenario.{Scenario}
-use Rattle.mq_history.specs.declared.scenario.Step.TheVariants as steps
-use Rattle.mq_history.specs.declared.scripts.GetOptions.{GetOptions}
-use Rattle.mq_history.specs.declared.scripts.ScriptLine.{ScriptLine}
-use Rattle.mq_history.specs.declared.scripts.ScriptLine.TheVariants as lines
-use Rattle.mq_spec_manager.specs.Commands.{defined_object}
-use Rattle.mq_spec_manager.proofs.Script.{connection, handle}
+use Rattle.mq_spec_node.specs.from_objects.{Object}
+use Rattle.mq_spec_node.specs.from_objects.SubjectVariants as subjects
+use Rattle.mq_spec_node.specs.from_calls.TakeVariants as takes
+use Rattle.mq_spec_node.specs.from_frame.SeenVariants as items
+use Rattle.mq_spec_node.specs.from_history.ActVariants as acts
+use Rattle.mq_spec_node.specs.from_history.{Actor, Call, Entry, GetOptions, History, Scenario, ScriptLine, ScriptPart}
+use Rattle.mq_spec_node.specs.from_history.ActorVariants as actors
+use Rattle.mq_spec_node.specs.from_history.CallVariants as calls
+use Rattle.mq_spec_node.specs.from_history.StepVariants as steps
+use Rattle.mq_spec_node.specs.from_history.ScriptLineVariants as lines
+use Rattle.mq_spec_node.specs.from_spec_manager.Commands.{defined_object}
+use Rattle.mq_spec_node.proofs.from_spec_manager.Script.{connection, handle}
 use Rattle.mq_spec_node.specs.Node.{Node}
 use Rattle.mq_spec_node.specs.Happens.{event}
 use Rattle.mq_spec_node.specs.Replays.{opening_node}

@@ -3,7 +3,7 @@ use Rattle.std.specs.Prelude.{ℕ, ◌≡◌, ◌-◌, ◌==◌, nat_lt, Bool, t
 use Rattle.std.specs.Str.{bytes_eq}
 pub use Rattle.std.specs.Option.{option_or as or_else}
 use Rattle.mq_spec_network.specs.Terms.{Ident, Row, same_ident, LocalQueue, locals_of, Luw, InDoubt, SenderData, ReceiverData, History, CableLine, Scenario, Apart, Plain, stored, sender_data, receiver_data, sender_or, receiver_or}
-use Rattle.mq_history.specs.declared.story.Apart.TheVariants as cases
+use Rattle.mq_spec_node.specs.from_history.ApartVariants as cases
 use Rattle.mq_spec_network.specs.Given.{name_at}
 use Rattle.mq_spec_network.specs.Standing.{standing_in, opening_managers}
 

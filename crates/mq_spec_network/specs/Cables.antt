@@ -1,7 +1,7 @@
 -- Cables: what a reader sees of the items that lie there. What the scripted faults make of them is mq_cable's.
 use Rattle.std.specs.Prelude.{◌≡◌, ◌⊎◌, ℕ, ◌+◌, max, Bool, true, false, ◌&&◌, List, [], ◌∷◌, ◌++◌, Option, Some, None, length, drop, filter, flat_map}
 use Rattle.mq_spec_network.specs.Terms.{Frame, Seen, Actor, Entry, Fault, Offer, made_of, Within}
-use Rattle.mq_frame.specs.declared.frame.Seen.TheVariants as items
+use Rattle.mq_spec_node.specs.from_frame.SeenVariants as items
 
 -- an item of a cable: the stamp of its frame, and what a reader sees of it
 pub record Lying : Type 0 where

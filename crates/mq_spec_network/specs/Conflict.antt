@@ -4,8 +4,8 @@ use Rattle.std.specs.List.{list_any}
 use Rattle.std.specs.Str.{bytes_eq}
 pub use Rattle.std.specs.Option.{option_or as or_else}
 use Rattle.mq_spec_network.specs.Terms.{Luw, ReceiverData, no_unit, same_unit, Did, History, CableLine, Scenario, Conflict, Plain, receiver_data}
-use Rattle.mq_calls.specs.declared.agents.Note.TheVariants as notes
-use Rattle.mq_calls.specs.declared.deltas.Did.TheVariants as did
+use Rattle.mq_spec_node.specs.from_calls.NoteVariants as notes
+use Rattle.mq_spec_node.specs.from_calls.DidVariants as did
 use Rattle.mq_spec_network.specs.Story.{Line}
 use Rattle.mq_spec_network.specs.Standing.{opening_managers, last_unit, cable_named}
 

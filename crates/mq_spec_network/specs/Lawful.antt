@@ -1,7 +1,7 @@
 -- When the histories of a scenario's managers make a lawful story.
 use Rattle.std.specs.Prelude.{◌≡◌, ◌<◌, ℕ, Bool, false, List, [], ◌∷◌, ◌++◌, Option, Some, None, length, slice_get}
 use Rattle.mq_spec_network.specs.Terms.{History, Mark, CableLine, RulesPart, ScriptPart, Scenario, Step, Node, Surroundings, Replays, TriggersStand, NoneForeign, opening_node, AreLines, fresh, is_sender, is_receiver, by, lines_by}
-use Rattle.mq_history.specs.declared.scenario.Step.TheVariants as steps
+use Rattle.mq_spec_node.specs.from_history.StepVariants as steps
 use Rattle.mq_spec_network.specs.Story.{entries_at}
 use Rattle.mq_spec_network.specs.Given.{surroundings}
 use Rattle.mq_spec_network.specs.Cables.{Carries}

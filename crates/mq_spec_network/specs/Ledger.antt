@@ -4,15 +4,15 @@ use Rattle.std.specs.List.{list_any}
 use Rattle.std.specs.Str.{bytes_eq}
 use Rattle.mq_spec_network.specs.Terms.{Reason, Ident, Dest, Md, Message, Row, same_ident, has_ident, insert_row, keep, LocalQueue, Process, local_of, process_of, new_manager, Route, resolve, Hconn, Hobj, Appl, Open, Get, Got, Comes, Did, Why, Item, Put, Take, Handle, Connection, Command, Call, Chance, Reply, Entry, Shelf, ManagerPlaces, connection_at, handle_at, is_persistent, lane_of, new_row, change_connection, Here, message_put, queue_at, dest_at, handle_route, is_destructive, definitions_after, trigger_message, last_moment, names_of, bare_if, dead_message}
 use Rattle.mq_codes.specs.declared.reason.Reason.TheVariants as reasons
-use Rattle.mq_calls.specs.declared.answers.Answer.TheVariants as answers
-use Rattle.mq_calls.specs.declared.deltas.Did.TheVariants as did
-use Rattle.mq_calls.specs.declared.deltas.Why.TheVariants as whys
-use Rattle.mq_history.specs.declared.acts.Act.TheVariants as acts
-use Rattle.mq_history.specs.declared.acts.Acted.TheVariants as acted
-use Rattle.mq_sc_parse.specs.declared.command.Command.TheVariants as commands
-use Rattle.mq_history.specs.declared.calls.Call.TheVariants as calls
-use Rattle.mq_history.specs.declared.calls.Chance.TheVariants as chances
-use Rattle.mq_history.specs.declared.calls.Reply.TheVariants as replies
+use Rattle.mq_spec_node.specs.from_calls.AnswerVariants as answers
+use Rattle.mq_spec_node.specs.from_calls.DidVariants as did
+use Rattle.mq_spec_node.specs.from_calls.WhyVariants as whys
+use Rattle.mq_spec_node.specs.from_history.ActVariants as acts
+use Rattle.mq_spec_node.specs.from_history.ActedVariants as acted
+use Rattle.mq_spec_node.specs.from_sc_parse.CommandVariants as commands
+use Rattle.mq_spec_node.specs.from_history.CallVariants as calls
+use Rattle.mq_spec_node.specs.from_history.ChanceVariants as chances
+use Rattle.mq_spec_node.specs.from_history.ReplyVariants as replies
 use Rattle.mq_spec_network.specs.Story.{Line}
 
 -- a call whose write was stopped, and the moment at which it was made

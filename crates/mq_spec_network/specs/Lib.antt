@@ -14,3 +14,7 @@ pub mod Steps
 pub mod Lawful
 pub mod Promised
 pub mod Words
+pub mod from_history
+pub mod from_sc_parse
+pub mod from_spec_manager
+pub mod from_spec_node

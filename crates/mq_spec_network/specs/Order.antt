@@ -3,12 +3,12 @@ use Rattle.std.specs.Prelude.{ℕ, ◌≡◌, ◌⊎◌, Bool, true, not, ◌&&�
 use Rattle.std.specs.List.{list_any}
 use Rattle.std.specs.Str.{bytes_eq}
 use Rattle.mq_spec_network.specs.Terms.{Ident, Message, Row, same_ident, Luw, same_unit, Did, Entry, Reply, Chance, Comes}
-use Rattle.mq_calls.specs.declared.agents.Note.TheVariants as notes
-use Rattle.mq_calls.specs.declared.deltas.Did.TheVariants as did
-use Rattle.mq_calls.specs.declared.deltas.Why.TheVariants as whys
-use Rattle.mq_history.specs.declared.acts.Acted.TheVariants as acted
-use Rattle.mq_history.specs.declared.calls.Reply.TheVariants as replies
-use Rattle.mq_history.specs.declared.calls.Chance.TheVariants as chances
+use Rattle.mq_spec_node.specs.from_calls.NoteVariants as notes
+use Rattle.mq_spec_node.specs.from_calls.DidVariants as did
+use Rattle.mq_spec_node.specs.from_calls.WhyVariants as whys
+use Rattle.mq_spec_node.specs.from_history.ActedVariants as acted
+use Rattle.mq_spec_node.specs.from_history.ReplyVariants as replies
+use Rattle.mq_spec_node.specs.from_history.ChanceVariants as chances
 use Rattle.mq_spec_network.specs.Story.{Line, Mem}
 pub use Rattle.mq_spec_network.specs.Ledger.{idents_of}
 use Rattle.mq_spec_network.specs.Ledger.{Ledger, Stopped, users_at, posted, ledger_rows, dead_reason}

@@ -1,8 +1,8 @@
 -- What is promised of a lawful story of a joined network.
 use Rattle.std.specs.Prelude.{◌≡◌, ◌+◌, All, ℕ, false, List, ◌++◌, Some, slice_get, flat_map, map}
 use Rattle.mq_spec_network.specs.Terms.{Ident, Row, same_ident, History, Scenario, IsScenario, Plain, Queue, IsImage}
-use Rattle.mq_calls.specs.declared.state.SenderSide.{SenderSide}
-use Rattle.mq_calls.specs.Recovery.{IsDoubtKnown}
+use Rattle.mq_spec_node.specs.from_calls.{SenderSide}
+use Rattle.mq_spec_node.specs.from_calls.Recovery.{IsDoubtKnown}
 use Rattle.mq_spec_network.specs.Story.{Line, Chain, IsStory}
 use Rattle.mq_spec_network.specs.Ledger.{ledger, ledger_rows}
 use Rattle.mq_spec_network.specs.Standing.{standing, standing_in, managers_at, opening_ledger, rows_told}

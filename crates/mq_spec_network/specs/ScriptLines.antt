@@ -1,8 +1,8 @@
 -- The lines of a script in a network: those that are left, the next call, and whether its get would still wait.
 use Rattle.std.specs.Prelude.{◌≡◌, ℕ, Bool, List, Option, Some, None, take}
 use Rattle.mq_spec_network.specs.Terms.{Call, ScriptPart, ScriptLine, deadline, left_after, call_after, is_none}
-use Rattle.mq_frame.specs.declared.frame.Seen.TheVariants as items
-use Rattle.mq_history.specs.declared.calls.Actor.TheVariants as actors
+use Rattle.mq_spec_node.specs.from_frame.SeenVariants as items
+use Rattle.mq_spec_node.specs.from_history.ActorVariants as actors
 use Rattle.mq_spec_network.specs.Turns.{Network, node_at, deed_at}
 
 abbrev pub lines_left : Network → ℕ → ScriptPart → List ScriptLine

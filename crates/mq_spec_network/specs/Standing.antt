@@ -2,7 +2,7 @@
 use Rattle.std.specs.Prelude.{ℕ, ◌+◌, ◌==◌, ◌&&◌, pos, Bool, false, not, List, [], ◌∷◌, if◌then◌else◌, Option, Some, None, map, slice_get, suc}
 use Rattle.std.specs.Str.{bytes_eq}
 use Rattle.mq_spec_network.specs.Terms.{Holder, Row, keep, Luw, InDoubt, ReceiverData, no_unit, same_unit, CableLine, Scenario, History, Shelf, ManagerPlaces, Plain, Queue, stored, sender_data, receiver_data, in_doubt_of, Node, after, opening_node}
-use Rattle.mq_message.specs.declared.place.Holder.TheVariants as holders
+use Rattle.mq_spec_node.specs.from_message.HolderVariants as holders
 use Rattle.mq_spec_network.specs.Story.{Line, part}
 use Rattle.mq_spec_network.specs.Given.{surroundings}
 use Rattle.mq_spec_network.specs.Ledger.{Ledger}

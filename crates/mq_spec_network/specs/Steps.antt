@@ -1,14 +1,14 @@
 -- How a step goes on, entry by entry: what may come next, and what is left of it then.
 use Rattle.std.specs.Prelude.{◌≡◌, ◌⊎◌, ℕ, zero, suc, ◌+◌, Bool, true, false, not, List, [], ◌∷◌, ◌++◌, Option, Some, None, slice_get, is_some}
 use Rattle.mq_spec_network.specs.Terms.{Hconn, Actor, Call, Reply, Entry, MonitorLine, ScriptPart, Scenario, ScriptLine, Node, OwnScript, Frame, Seen, CableLine, trigger_deed, script_appl, deadline, wait_of, until_of, left_after, call_after, is_none, shared, is_opened, begins, monitor_next, monitor_idle, monitor_live}
-use Rattle.mq_calls.specs.declared.answers.Answer.TheVariants as answers
-use Rattle.mq_calls.specs.declared.commands.RestartFault.TheVariants as faults
-use Rattle.mq_frame.specs.declared.frame.Seen.TheVariants as items
-use Rattle.mq_history.specs.declared.acts.Act.TheVariants as acts
-use Rattle.mq_history.specs.declared.acts.Acted.TheVariants as acted
-use Rattle.mq_history.specs.declared.calls.Actor.TheVariants as actors
-use Rattle.mq_history.specs.declared.calls.Call.TheVariants as calls
-use Rattle.mq_history.specs.declared.calls.Reply.TheVariants as replies
+use Rattle.mq_spec_node.specs.from_calls.AnswerVariants as answers
+use Rattle.mq_spec_node.specs.from_calls.RestartFaultVariants as faults
+use Rattle.mq_spec_node.specs.from_frame.SeenVariants as items
+use Rattle.mq_spec_node.specs.from_history.ActVariants as acts
+use Rattle.mq_spec_node.specs.from_history.ActedVariants as acted
+use Rattle.mq_spec_node.specs.from_history.ActorVariants as actors
+use Rattle.mq_spec_node.specs.from_history.CallVariants as calls
+use Rattle.mq_spec_node.specs.from_history.ReplyVariants as replies
 use Rattle.mq_spec_node.specs.Deeds.{Deed}
 use Rattle.mq_spec_network.specs.Story.{Mem}
 use Rattle.mq_spec_network.specs.Turns.{Network, Direction, node_at, does, is_up_at, where_there, deed_at, out_of, back_of, out_way, back_way, waiting, extras_of, changes, sender_turn, receiver_turn, timeout_turn, is_idle}

@@ -1,7 +1,7 @@
 -- The story of a network: all entries of its managers' histories, by stamp and then by manager.
 use Rattle.std.specs.Prelude.{ℕ, ◌≡◌, ◌<◌, ◌⊎◌, nat_lt, Bool, List, [], ◌∷◌, Option, Some, None, slice_get, ◌==◌, ◌&&◌, ◌||◌, if◌then◌else◌, suc}
 use Rattle.mq_spec_network.specs.Terms.{Entry, History}
-pub use Rattle.mq_base.specs.Members.{Mem, Chain}
+pub use Rattle.mq_spec_node.specs.from_base.Members.{Mem, Chain}
 
 -- an entry of the story: the manager's place in the scenario, and its entry
 pub record Line : Type 0 where

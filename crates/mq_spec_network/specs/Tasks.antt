@@ -1,10 +1,10 @@
 -- What is left of a step: tasks, the first one first.
 use Rattle.std.specs.Prelude.{ℕ, suc, Bool, false, List, [], ◌∷◌, ◌++◌, Option, Some, None, slice_get}
 use Rattle.mq_spec_network.specs.Terms.{Hconn, Command, Actor, Call, ManagerLine, MonitorLine, RulesPart, ScriptPart, Section, Scenario, Step, ScriptLine, Node}
-use Rattle.mq_history.specs.declared.acts.Act.TheVariants as acts
-use Rattle.mq_history.specs.declared.calls.Actor.TheVariants as actors
-use Rattle.mq_history.specs.declared.calls.Call.TheVariants as calls
-use Rattle.mq_history.specs.declared.scenario.Step.TheVariants as steps
+use Rattle.mq_spec_node.specs.from_history.ActVariants as acts
+use Rattle.mq_spec_node.specs.from_history.ActorVariants as actors
+use Rattle.mq_spec_node.specs.from_history.CallVariants as calls
+use Rattle.mq_spec_node.specs.from_history.StepVariants as steps
 use Rattle.mq_spec_network.specs.Turns.{Network, node_at}
 
 -- what a cable is given in a pump's rounds

@@ -1,10 +1,10 @@
 -- Turns of channel ends over the cables of one thread, and when nothing can change.
 use Rattle.std.specs.Prelude.{ℕ, suc, ◌+◌, ◌-◌, min, ◌==◌, nat_le, Bool, true, false, not, ◌&&◌, ◌||◌, List, [], ◌∷◌, ◌++◌, if◌then◌else◌, Option, Some, None, length, is_some}
 use Rattle.mq_spec_network.specs.Terms.{Frame, Seen, Stock, Actor, Call, Entry, CableLine, Fault, Scenario, SenderState, is_up, stock, Node, SenderEnd, ReceiverEnd, sender_end, receiver_end, deed_of, after, fault_of, now_of, due_after, offered_of, is_sender, is_receiver, by}
-use Rattle.mq_frame.specs.declared.frame.Seen.TheVariants as items
-use Rattle.mq_history.specs.declared.calls.Actor.TheVariants as actors
-use Rattle.mq_history.specs.declared.calls.Call.TheVariants as calls
-use Rattle.mq_sender.specs.declared.state.SenderState.TheVariants as states
+use Rattle.mq_spec_node.specs.from_frame.SeenVariants as items
+use Rattle.mq_spec_node.specs.from_history.ActorVariants as actors
+use Rattle.mq_spec_node.specs.from_history.CallVariants as calls
+use Rattle.mq_spec_node.specs.from_sender.SenderStateVariants as states
 use Rattle.mq_spec_node.specs.Deeds.{Deed}
 use Rattle.mq_spec_network.specs.Cables.{Lying, whole, spoiled, offered_by, lying}
 

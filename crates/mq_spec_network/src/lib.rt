@@ -2,3 +2,5 @@
 //! standing rows, conflicts, the order on a channel, and which logs belong together. Definitions
 //! alone.
 #![tactic(auto)]
+
+pub mod below;

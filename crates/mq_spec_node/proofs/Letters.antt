@@ -1,27 +1,26 @@
 -- A dead-letter handler whose first rule fails twice, computed from the definitions.
 use Rattle.std.specs.Prelude.{◌≡◌, ℕ, pos, false, List, [], ◌∷◌, Option, Some, None, map, codes, refl}
 use Rattle.mq_codes.specs.declared.reason.Reason.TheVariants as reasons
-use Rattle.mq_message.specs.declared.message.Message.{Message}
-use Rattle.mq_message.specs.Layout.{long_bytes, long_of}
-use Rattle.mq_heads.specs.Headers.{dlh_bytes, dlh_in, dlh_read}
-use Rattle.mq_clock.specs.Stamps.{put_date, put_time, reached}
-use Rattle.mq_frame.specs.declared.frame.Seen.TheVariants as items
-use Rattle.mq_queue.specs.declared.row.Row.{Row}
-use Rattle.mq_objects.specs.declared.object.Object.{Object}
-use Rattle.mq_objects.specs.declared.setting.Setting.TheVariants as settings
-use Rattle.mq_objects.specs.declared.command.Subject.TheVariants as subjects
+use Rattle.mq_history.specs.from_message.{Message}
+use Rattle.mq_history.specs.from_message.Layout.{long_bytes, long_of}
+use Rattle.mq_spec_manager.specs.from_heads.Headers.{dlh_bytes, dlh_in, dlh_read}
+use Rattle.mq_spec_manager.specs.from_heads.Stamps.{put_date, put_time, reached}
+use Rattle.mq_history.specs.from_frame.SeenVariants as items
+use Rattle.mq_history.specs.from_queue.{Row}
+use Rattle.mq_history.specs.from_objects.{Object}
+use Rattle.mq_history.specs.from_objects.SettingVariants as settings
+use Rattle.mq_history.specs.from_objects.SubjectVariants as subjects
 use Rattle.mq_history.specs.declared.acts.Act.TheVariants as acts
 use Rattle.mq_history.specs.declared.calls.Actor.TheVariants as actors
 use Rattle.mq_history.specs.declared.calls.Call.TheVariants as calls
-use Rattle.mq_calls.specs.declared.image.Shelf.{Shelf}
-use Rattle.mq_rules.specs.declared.rule.Rule.{Rule}
-use Rattle.mq_rules.specs.declared.rule.Table.{Table}
-use Rattle.mq_rules.specs.declared.rule.Action.TheVariants as actions
-use Rattle.mq_rules.specs.declared.rule.Condition.TheVariants as conditions
-use Rattle.mq_rules.specs.declared.rule.NumberField.TheVariants as numbers
-use Rattle.mq_rules.specs.declared.rule.Target.TheVariants as targets
-use Rattle.mq_rules.specs.declared.rule.Wait.TheVariants as waits
-use Rattle.mq_calls.specs.Reads.{stored}
+use Rattle.mq_history.specs.from_calls.{Shelf}
+use Rattle.mq_history.specs.from_rules.{Rule, Table}
+use Rattle.mq_history.specs.from_rules.ActionVariants as actions
+use Rattle.mq_history.specs.from_rules.ConditionVariants as conditions
+use Rattle.mq_history.specs.from_rules.NumberFieldVariants as numbers
+use Rattle.mq_history.specs.from_rules.TargetVariants as targets
+use Rattle.mq_history.specs.from_rules.WaitVariants as waits
+use Rattle.mq_history.specs.from_calls.Reads.{stored}
 use Rattle.mq_spec_manager.specs.Commands.{defined_object}
 use Rattle.mq_spec_manager.proofs.Script.{script_md, ident_numbers}
 use Rattle.mq_spec_manager.specs.Agents.{dead_message}

@@ -5,3 +5,4 @@ pub mod RowsRestarts
 pub mod RowsBatches
 pub mod RowsWaits
 pub mod RowsImages
+pub mod from_spec_manager

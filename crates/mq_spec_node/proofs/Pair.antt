@@ -1,19 +1,18 @@
 -- Two managers and one channel, whose ends take turns over two lists of frames, for worked rows.
 use Rattle.std.specs.Prelude.{ℕ, zero, suc, ◌+◌, Bool, true, false, List, [], ◌∷◌, ◌++◌, if◌then◌else◌, Option, Some, None, codes, is_some, max}
-use Rattle.mq_frame.specs.declared.frame.Frame.{Frame}
-use Rattle.mq_frame.specs.declared.frame.Seen.{Seen}
-use Rattle.mq_frame.specs.declared.frame.Seen.TheVariants as items
-use Rattle.mq_objects.specs.declared.object.Object.{Object}
-use Rattle.mq_objects.specs.declared.object.Usage.TheVariants as usages
-use Rattle.mq_objects.specs.declared.setting.ChannelType.TheVariants as channel_types
-use Rattle.mq_objects.specs.declared.setting.Setting.TheVariants as settings
-use Rattle.mq_objects.specs.declared.command.Subject.TheVariants as subjects
-use Rattle.mq_objects.specs.Defaults.{new_manager}
-use Rattle.mq_calls.specs.declared.choices.Choice.TheVariants.{Runs}
+use Rattle.mq_history.specs.from_frame.{Frame, Seen}
+use Rattle.mq_history.specs.from_frame.SeenVariants as items
+use Rattle.mq_history.specs.from_objects.{Object}
+use Rattle.mq_history.specs.from_objects.UsageVariants as usages
+use Rattle.mq_history.specs.from_objects.ChannelTypeVariants as channel_types
+use Rattle.mq_history.specs.from_objects.SettingVariants as settings
+use Rattle.mq_history.specs.from_objects.SubjectVariants as subjects
+use Rattle.mq_history.specs.from_objects.Defaults.{new_manager}
+use Rattle.mq_history.specs.from_calls.ChoiceVariants.{Runs}
 use Rattle.mq_history.specs.declared.acts.Act.{Act}
 use Rattle.mq_history.specs.declared.acts.Act.TheVariants as acts
-use Rattle.mq_sc_parse.specs.declared.command.Command.TheVariants as commands
-use Rattle.mq_sc_parse.specs.declared.command.Op.TheVariants as ops
+use Rattle.mq_history.specs.from_sc_parse.CommandVariants as commands
+use Rattle.mq_history.specs.from_sc_parse.OpVariants as ops
 use Rattle.mq_history.specs.declared.calls.Actor.{Actor}
 use Rattle.mq_history.specs.declared.calls.Actor.TheVariants as actors
 use Rattle.mq_history.specs.declared.calls.Call.{Call}
@@ -21,7 +20,7 @@ use Rattle.mq_history.specs.declared.calls.Call.TheVariants as calls
 use Rattle.mq_history.specs.declared.calls.Chance.{Chance}
 use Rattle.mq_history.specs.declared.calls.Chance.TheVariants as chances
 use Rattle.mq_history.specs.declared.calls.Entry.{Entry}
-use Rattle.mq_calls.specs.declared.image.Image.{Image}
+use Rattle.mq_history.specs.from_calls.{Image}
 use Rattle.mq_receiver.specs.States.{receiver_of}
 use Rattle.mq_sender.specs.States.{new_sender}
 use Rattle.mq_spec_manager.specs.Commands.{defined_object}

@@ -1,12 +1,12 @@
 -- A batch that has one ident twice, computed: one message is placed, and the receiver's commit tells one.
 use Rattle.std.specs.Prelude.{◌≡◌, pos, [], ◌∷◌, Some, None, map, codes, refl}
-use Rattle.mq_message.specs.declared.message.Message.{Message}
-use Rattle.mq_frame.specs.declared.frame.Seen.TheVariants as items
-use Rattle.mq_queue.specs.declared.row.Row.{Row}
+use Rattle.mq_history.specs.from_message.{Message}
+use Rattle.mq_history.specs.from_frame.SeenVariants as items
+use Rattle.mq_history.specs.from_queue.{Row}
 use Rattle.mq_receiver.specs.States.{receiver_of}
-use Rattle.mq_sync.specs.Units.{unit_named}
-use Rattle.mq_calls.specs.Reads.{stored}
-use Rattle.mq_calls.specs.Steps.{do_all}
+use Rattle.mq_sender.specs.from_sync.Units.{unit_named}
+use Rattle.mq_history.specs.from_calls.Reads.{stored}
+use Rattle.mq_history.specs.from_calls.Steps.{do_all}
 use Rattle.mq_spec_manager.specs.Agents.{receive}
 use Rattle.mq_spec_manager.proofs.Script.{script_md, ident_numbers}
 use Rattle.mq_spec_node.specs.Node.{Node, ReceiverEnd}

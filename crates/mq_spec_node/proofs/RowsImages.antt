@@ -3,17 +3,16 @@ use Rattle.std.specs.Prelude.{◌≡◌, false, [], ◌∷◌, Option, Some, Non
 use Rattle.std.proofs.Common.{arith}
 use Rattle.std.proofs.lemmas.List.Elements.{All-cons, All-nil}
 use Rattle.std.proofs.lemmas.List.Kept.{AllPairs-cons}
-use Rattle.mq_message.specs.declared.place.Holder.{Holder}
-use Rattle.mq_message.specs.declared.place.Holder.TheVariants as holders
-use Rattle.mq_queue.specs.declared.row.Row.{Row}
-use Rattle.mq_objects.specs.declared.object.Object.{Object}
-use Rattle.mq_objects.specs.declared.setting.ChannelType.TheVariants as channel_types
-use Rattle.mq_objects.specs.declared.setting.Setting.TheVariants as settings
-use Rattle.mq_objects.specs.declared.command.Subject.TheVariants as subjects
-use Rattle.mq_objects.specs.Names.{is_object, space_of, name_of}
-use Rattle.mq_calls.specs.declared.image.Image.{Image}
-use Rattle.mq_calls.specs.declared.image.Shelf.{Shelf}
-use Rattle.mq_calls.specs.Recovery.{IsImage, IsShelf, IsLasting, IsOfDoubt, IsSenderSide, IsReceiverSide}
+use Rattle.mq_history.specs.from_message.{Holder}
+use Rattle.mq_history.specs.from_message.HolderVariants as holders
+use Rattle.mq_history.specs.from_queue.{Row}
+use Rattle.mq_history.specs.from_objects.{Object}
+use Rattle.mq_history.specs.from_objects.ChannelTypeVariants as channel_types
+use Rattle.mq_history.specs.from_objects.SettingVariants as settings
+use Rattle.mq_history.specs.from_objects.SubjectVariants as subjects
+use Rattle.mq_history.specs.from_objects.Names.{is_object, space_of, name_of}
+use Rattle.mq_history.specs.from_calls.{Image, Shelf}
+use Rattle.mq_history.specs.from_calls.Recovery.{IsImage, IsShelf, IsLasting, IsOfDoubt, IsSenderSide, IsReceiverSide}
 use Rattle.mq_spec_manager.specs.Commands.{defined_object}
 use Rattle.mq_spec_node.proofs.Pair.{channel, at_paris, image}
 use Rattle.mq_spec_node.proofs.RowsBatches.{message}

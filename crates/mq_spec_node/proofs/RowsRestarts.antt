@@ -1,12 +1,12 @@
 -- Restarts, computed: of a manager that runs, and of one whose receiver's commit was cut.
 use Rattle.std.specs.Prelude.{◌≡◌, ℕ, Bool, true, false, List, [], ◌∷◌, None, map, refl, codes}
-use Rattle.mq_disk.specs.declared.cutter.Stop.TheVariants as stops
-use Rattle.mq_frame.specs.declared.frame.Seen.TheVariants as items
-use Rattle.mq_message.specs.declared.message.Message.{Message}
-use Rattle.mq_calls.specs.declared.choices.Choice.TheVariants.{Stopped}
-use Rattle.mq_calls.specs.declared.choices.Return.{Return}
-use Rattle.mq_calls.specs.declared.choices.Return.TheVariants.{Comes, Fails}
-use Rattle.mq_calls.specs.declared.commands.RestartFault.TheVariants as faults
+use Rattle.mq_history.specs.from_disk.StopVariants as stops
+use Rattle.mq_history.specs.from_frame.SeenVariants as items
+use Rattle.mq_history.specs.from_message.{Md, Message}
+use Rattle.mq_history.specs.from_calls.ChoiceVariants.{Stopped}
+use Rattle.mq_history.specs.from_calls.{Hconn, Return}
+use Rattle.mq_history.specs.from_calls.ReturnVariants.{Comes, Fails}
+use Rattle.mq_history.specs.from_calls.RestartFaultVariants as faults
 use Rattle.mq_history.specs.declared.acts.Act.TheVariants as acts
 use Rattle.mq_history.specs.declared.acts.Acted.TheVariants as acted
 use Rattle.mq_history.specs.declared.calls.Actor.TheVariants as actors
@@ -15,12 +15,10 @@ use Rattle.mq_history.specs.declared.calls.Chance.TheVariants as chances
 use Rattle.mq_history.specs.declared.calls.Reply.TheVariants as replies
 use Rattle.mq_history.specs.declared.calls.Call.{Call}
 use Rattle.mq_spec_manager.proofs.Script.{script_appl, connection, handle, plain_md, persistent_md, ident_numbers}
-use Rattle.mq_calls.specs.State.{Queue}
-use Rattle.mq_calls.specs.Reads.{stored}
-use Rattle.mq_calls.specs.Images.{lasting}
-use Rattle.mq_queue.specs.declared.row.Row.{Row}
-use Rattle.mq_message.specs.declared.message.Md.{Md}
-use Rattle.mq_calls.specs.declared.answers.Hconn.{Hconn}
+use Rattle.mq_history.specs.from_calls.State.{Queue}
+use Rattle.mq_history.specs.from_calls.Reads.{stored}
+use Rattle.mq_history.specs.from_calls.Images.{lasting}
+use Rattle.mq_history.specs.from_queue.{Row}
 use Rattle.std.proofs.Common.{arith}
 use Rattle.mq_spec_node.specs.Node.{Node, ChannelEnd}
 use Rattle.mq_spec_node.specs.Node.ChannelEnd.{Sends, Receives}

@@ -1,12 +1,11 @@
 -- A get that may still wait, computed: it is no event, also where memory is wanting; at its deadline it is one.
 use Rattle.std.specs.Prelude.{◌≡◌, ℕ, ◌+◌, false, [], Some, None, codes, refl}
 use Rattle.mq_codes.specs.declared.reason.Reason.TheVariants as reasons
-use Rattle.mq_frame.specs.declared.frame.Seen.TheVariants as items
-use Rattle.mq_calls.specs.declared.answers.Answer.TheVariants as answers
-use Rattle.mq_calls.specs.declared.answers.Hconn.{Hconn}
-use Rattle.mq_calls.specs.declared.answers.Take.TheVariants as takes
-use Rattle.mq_calls.specs.declared.choices.Choice.{Choice}
-use Rattle.mq_calls.specs.declared.choices.Choice.TheVariants.{NoMemory}
+use Rattle.mq_history.specs.from_frame.SeenVariants as items
+use Rattle.mq_history.specs.from_calls.AnswerVariants as answers
+use Rattle.mq_history.specs.from_calls.{Choice, Hconn}
+use Rattle.mq_history.specs.from_calls.TakeVariants as takes
+use Rattle.mq_history.specs.from_calls.ChoiceVariants.{NoMemory}
 use Rattle.mq_history.specs.declared.calls.Actor.TheVariants as actors
 use Rattle.mq_history.specs.declared.calls.Call.{Call}
 use Rattle.mq_history.specs.declared.calls.Call.TheVariants as calls

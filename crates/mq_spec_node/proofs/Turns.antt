@@ -1,14 +1,13 @@
 -- A channel's turns, computed from the definitions.
 use Rattle.std.specs.Prelude.{◌≡◌, ℕ, true, false, List, [], ◌∷◌, Option, Some, None, map, codes, refl}
-use Rattle.mq_queue.specs.declared.row.Row.{Row}
-use Rattle.mq_calls.specs.declared.answers.Open.{Open}
-use Rattle.mq_calls.specs.declared.answers.Input.TheVariants as inputs
+use Rattle.mq_history.specs.from_queue.{Row}
+use Rattle.mq_history.specs.from_calls.{Open}
+use Rattle.mq_history.specs.from_calls.InputVariants as inputs
 use Rattle.mq_history.specs.declared.calls.Actor.TheVariants as actors
 use Rattle.mq_history.specs.declared.calls.Call.{Call}
 use Rattle.mq_history.specs.declared.calls.Call.TheVariants as calls
-use Rattle.mq_sync.specs.declared.data.SenderData.{SenderData}
-use Rattle.mq_sync.specs.declared.data.ReceiverData.{ReceiverData}
-use Rattle.mq_calls.specs.Reads.{stored, sender_data, receiver_data}
+use Rattle.mq_sender.specs.from_sync.{ReceiverData, SenderData}
+use Rattle.mq_history.specs.from_calls.Reads.{stored, sender_data, receiver_data}
 use Rattle.mq_spec_manager.proofs.Script.{connection, handle, script_appl, plain_md, ident_numbers}
 use Rattle.mq_spec_node.specs.Node.{Node}
 use Rattle.mq_spec_node.proofs.Pair.{Pair, pair, london, paris, at_paris, channel, at_sender, runs, rounds, turns, operate, start}

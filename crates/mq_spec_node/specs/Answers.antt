@@ -1,11 +1,11 @@
 -- What an event shows to who asked for it. A call whose forced write was stopped is answered 2009, a command DISK or CUT.
 use Rattle.mq_spec_node.specs.Terms.{Stop, Command, RestartFault, ScRefusal, Act, Acted, OpRefusal, Call, Reply}
 use Rattle.mq_codes.specs.declared.reason.Reason.TheVariants as reasons
-use Rattle.mq_disk.specs.declared.cutter.Stop.TheVariants as stops
-use Rattle.mq_sc_parse.specs.declared.command.Command.TheVariants as commands
-use Rattle.mq_calls.specs.declared.answers.Answer.TheVariants as answers
-use Rattle.mq_calls.specs.declared.commands.RestartFault.TheVariants as faults
-use Rattle.mq_calls.specs.declared.commands.ScRefusal.TheVariants as refusals
+use Rattle.mq_history.specs.from_disk.StopVariants as stops
+use Rattle.mq_history.specs.from_sc_parse.CommandVariants as commands
+use Rattle.mq_history.specs.from_calls.AnswerVariants as answers
+use Rattle.mq_history.specs.from_calls.RestartFaultVariants as faults
+use Rattle.mq_history.specs.from_calls.ScRefusalVariants as refusals
 use Rattle.mq_history.specs.declared.acts.Act.TheVariants as acts
 use Rattle.mq_history.specs.declared.acts.Acted.TheVariants as acted
 use Rattle.mq_history.specs.declared.acts.OpRefusal.TheVariants as op_refusals

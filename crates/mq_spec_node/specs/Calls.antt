@@ -2,11 +2,11 @@
 use Rattle.std.specs.Prelude.{ℕ, List, [], Option, Some, None}
 use Rattle.mq_spec_node.specs.Terms.{Reason, LocalQueue, locals_of, Seen, Answer, Got, GetAnswer, Shown, ScRefusal, Command, Actor, Call, Running, Up, Down, Step, Part, Refuse, Do, mqconn, mqopen, mqclose, mqput, mqput1, mqget, mqcmit, mqback, mqdisc, command, first_due, trigger_turn}
 use Rattle.mq_codes.specs.declared.reason.Reason.TheVariants as reasons
-use Rattle.mq_calls.specs.declared.answers.Answer.TheVariants as answers
-use Rattle.mq_calls.specs.declared.answers.GetAnswer.TheVariants as get_answers
+use Rattle.mq_history.specs.from_calls.AnswerVariants as answers
+use Rattle.mq_history.specs.from_calls.GetAnswerVariants as get_answers
 use Rattle.mq_history.specs.declared.acts.Act.TheVariants as acts
 use Rattle.mq_history.specs.declared.acts.Acted.TheVariants as acted
-use Rattle.mq_sc_parse.specs.declared.command.Command.TheVariants as commands
+use Rattle.mq_history.specs.from_sc_parse.CommandVariants as commands
 use Rattle.mq_history.specs.declared.calls.Actor.TheVariants as actors
 use Rattle.mq_history.specs.declared.calls.Call.TheVariants as calls
 use Rattle.mq_history.specs.declared.calls.Reply.TheVariants as replies

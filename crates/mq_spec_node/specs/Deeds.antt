@@ -5,8 +5,8 @@ use Rattle.std.specs.List.{list_any}
 use Rattle.std.specs.Str.{bytes_eq}
 use Rattle.mq_spec_node.specs.Terms.{Reason, Ident, Message, same_ident, Frame, Answer, Choice, Runs, NoMemory, Stopped, Did, Reply, Plain, receiver_data, Step, Part, Possible, do_all, delta_of, delta_before, stopped_at, Refuse, Do}
 use Rattle.mq_codes.specs.declared.reason.Reason.TheVariants as reasons
-use Rattle.mq_calls.specs.declared.answers.Answer.TheVariants as answers
-use Rattle.mq_calls.specs.declared.deltas.Did.TheVariants as did
+use Rattle.mq_history.specs.from_calls.AnswerVariants as answers
+use Rattle.mq_history.specs.from_calls.DidVariants as did
 use Rattle.mq_history.specs.declared.calls.Reply.TheVariants as replies
 use Rattle.mq_receiver.specs.States as receivers
 use Rattle.mq_sender.specs.States as senders

@@ -3,8 +3,8 @@ use Rattle.std.specs.Prelude.{ℕ, ◌+◌, ◌*◌, nat_le, Bool, true, false, 
 use Rattle.std.specs.Str.{bytes_eq}
 use Rattle.mq_spec_node.specs.Terms.{Reason, Ident, Dest, Message, Dlh, dlh_in, Row, same_ident, is_free, LocalQueue, local_of, is_transmission, Table, Rule, Action, Forward, decision, target_name, Plain, stored, Step, Refuse, Do, is_dead, move_row, discard}
 use Rattle.mq_history.specs.declared.calls.Reply.TheVariants as replies
-use Rattle.mq_rules.specs.declared.rule.Action.TheVariants as actions
-use Rattle.mq_rules.specs.declared.rule.Target.TheVariants as targets
+use Rattle.mq_history.specs.from_rules.ActionVariants as actions
+use Rattle.mq_history.specs.from_rules.TargetVariants as targets
 use Rattle.mq_spec_node.specs.Node.{Node, Own, Handler, Tried, with_handler}
 use Rattle.mq_spec_node.specs.Deeds.{Deed, told, parts_of}
 

@@ -1,8 +1,8 @@
 -- What each event does at a node, and which events there are.
 use Rattle.std.specs.Prelude.{◌≡◌, ◌≤◌, ◌+◌, ℕ, Bool, true, false, List, [], Option, Some, None}
 use Rattle.mq_spec_node.specs.Terms.{Seen, Choice, Return, Fails, Runs, RestartFault, Kept, Did, Actor, Call, Chance, Reply, Image, Plain, Noted, Running, Up, Down, Outcome, After, Answered, Refused, Wanting, Broken, lasting, raised, stop, restart, cut, advance_clock, redone_if, grown, started_need, calls_of_restart, Spent, CanBeKept, CanReturn}
-use Rattle.mq_calls.specs.declared.answers.Answer.TheVariants as answers
-use Rattle.mq_calls.specs.declared.commands.RestartFault.TheVariants as faults
+use Rattle.mq_history.specs.from_calls.AnswerVariants as answers
+use Rattle.mq_history.specs.from_calls.RestartFaultVariants as faults
 use Rattle.mq_history.specs.declared.acts.Act.TheVariants as acts
 use Rattle.mq_history.specs.declared.acts.Acted.TheVariants as acted
 use Rattle.mq_history.specs.declared.calls.Actor.TheVariants as actors

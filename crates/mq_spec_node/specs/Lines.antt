@@ -1,7 +1,7 @@
 -- The lines of a script that are done, what it remembers of them, and the next.
 use Rattle.std.specs.Prelude.{ℕ, Bool, true, false, List, [], ◌∷◌, Option, Some, None, length, drop}
 use Rattle.mq_spec_node.specs.Terms.{Call, Entry, ScriptPart, ScriptLine}
-use Rattle.mq_frame.specs.declared.frame.Seen.TheVariants as items
+use Rattle.mq_history.specs.from_frame.SeenVariants as items
 use Rattle.mq_history.specs.declared.calls.Actor.TheVariants as actors
 use Rattle.mq_spec_node.specs.Node.{Node}
 use Rattle.mq_spec_node.specs.Deeds.{Deed}

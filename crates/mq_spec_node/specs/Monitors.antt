@@ -2,10 +2,10 @@
 use Rattle.std.specs.Prelude.{ℕ, ◌==◌, Bool, true, false, List, [], ◌∷◌, if◌then◌else◌, Option, Some, None, Ok, Err}
 use Rattle.std.specs.Str.{bytes_eq}
 use Rattle.mq_spec_node.specs.Terms.{Answer, Open, Hconn, Hobj, Get, Got, Call, Reply, Entry, tm_in, is_tm, trimmed, handles_connected}
-use Rattle.mq_calls.specs.declared.answers.Answer.TheVariants as answers
-use Rattle.mq_calls.specs.declared.answers.Input.TheVariants as inputs
-use Rattle.mq_calls.specs.declared.answers.Take.TheVariants as takes
-use Rattle.mq_frame.specs.declared.frame.Seen.TheVariants as items
+use Rattle.mq_history.specs.from_calls.AnswerVariants as answers
+use Rattle.mq_history.specs.from_calls.InputVariants as inputs
+use Rattle.mq_history.specs.from_calls.TakeVariants as takes
+use Rattle.mq_history.specs.from_frame.SeenVariants as items
 use Rattle.mq_history.specs.declared.calls.Actor.TheVariants as actors
 use Rattle.mq_history.specs.declared.calls.Call.TheVariants as calls
 use Rattle.mq_history.specs.declared.calls.Reply.TheVariants as replies

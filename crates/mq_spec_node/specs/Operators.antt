@@ -1,11 +1,11 @@
 -- Commands on the ends of channels: START, STOP, RESET and RESOLVE.
 use Rattle.std.specs.Prelude.{ℕ, ◌-◌, ◌==◌, nat_lt, Bool, true, false, not, ◌&&◌, ◌||◌, List, [], ◌∷◌, ◌++◌, if◌then◌else◌, Option, Some, None, is_some}
 use Rattle.mq_spec_node.specs.Terms.{ChannelKind, Channel, channel_of, Settle, InDoubt, ReceiverData, SeizeFault, Op, OpRefusal, Limits, Plain, is_up, sender_data, receiver_data, in_doubt_of, Step, Test, Part, when, refusal, Refuse, Do, seize, leave, release_batch, harden, set_bound, is_commit, receiver_or}
-use Rattle.mq_objects.specs.declared.object.ChannelKind.TheVariants as kinds
-use Rattle.mq_sync.specs.declared.data.End.TheVariants as end_kinds
-use Rattle.mq_calls.specs.declared.agents.Note.TheVariants as notes
-use Rattle.mq_calls.specs.declared.agents.SeizeFault.TheVariants as seize_faults
-use Rattle.mq_sc_parse.specs.declared.command.Op.TheVariants as ops
+use Rattle.mq_history.specs.from_objects.ChannelKindVariants as kinds
+use Rattle.mq_sender.specs.from_sync.EndVariants as end_kinds
+use Rattle.mq_history.specs.from_calls.NoteVariants as notes
+use Rattle.mq_history.specs.from_calls.SeizeFaultVariants as seize_faults
+use Rattle.mq_history.specs.from_sc_parse.OpVariants as ops
 use Rattle.mq_history.specs.declared.acts.OpRefusal.TheVariants as reasons
 use Rattle.mq_history.specs.declared.acts.Acted.TheVariants as acted
 use Rattle.mq_history.specs.declared.calls.Reply.TheVariants as replies

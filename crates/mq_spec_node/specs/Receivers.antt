@@ -2,8 +2,8 @@
 use Rattle.std.specs.Prelude.{ℕ, Bool, true, false, List, [], ◌++◌, Option, Some, None}
 use Rattle.std.specs.Option.{option_map}
 use Rattle.mq_spec_node.specs.Terms.{Reason, number, Dest, Message, Definitions, channel_of, FrameKind, Seen, Luw, ReceiverDoes, ReceiverOut, Receiver, owed_frame, receiver_next, receiver_after, kept_messages, bound_by, last_by, Plain, Step, Part, Refuse, Do, harden, set_bound, receive, messages_taken}
-use Rattle.mq_frame.specs.declared.frame.Seen.TheVariants as items
-use Rattle.mq_calls.specs.declared.agents.Note.TheVariants as notes
+use Rattle.mq_history.specs.from_frame.SeenVariants as items
+use Rattle.mq_history.specs.from_calls.NoteVariants as notes
 use Rattle.mq_receiver.specs.declared.turns.ReceiverDoes.TheVariants as does
 use Rattle.mq_receiver.specs.declared.turns.ReceiverOut.TheVariants as outs
 use Rattle.mq_spec_manager.specs.Agents.{is_receiver}

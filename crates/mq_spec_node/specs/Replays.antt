@@ -1,7 +1,7 @@
 -- When a history replays: each entry's reply and effect are those of its event, one after the other.
 use Rattle.std.specs.Prelude.{◌≡◌, ℕ, ◌+◌, ◌<◌, max, List, [], ◌∷◌, Option, Some, None}
 use Rattle.mq_spec_node.specs.Terms.{Frame, Seen, Actor, Call, Entry, Chance, History, Given}
-use Rattle.mq_frame.specs.declared.frame.Seen.TheVariants as items
+use Rattle.mq_history.specs.from_frame.SeenVariants as items
 use Rattle.mq_history.specs.declared.calls.Actor.TheVariants as actors
 use Rattle.mq_history.specs.declared.calls.Call.TheVariants as calls
 use Rattle.mq_history.specs.declared.calls.Chance.TheVariants as chances

@@ -2,7 +2,7 @@
 use Rattle.std.specs.Prelude.{◌≡◌, ℕ, pos, ◌+◌, min, not, List, [], ◌∷◌, if◌then◌else◌, Option, Some, None, Ok, Err, filter, replicate}
 use Rattle.std.specs.Str.{bytes_eq}
 use Rattle.mq_spec_node.specs.Terms.{padded, name_of, Md, Appl, Hconn, Hobj, Get, Call, Reply, Entry, Body, PutOptions, GetOptions, ScriptLine, trimmed, last_moment}
-use Rattle.mq_calls.specs.declared.answers.Answer.TheVariants as answers
+use Rattle.mq_history.specs.from_calls.AnswerVariants as answers
 use Rattle.mq_history.specs.declared.acts.Act.TheVariants as acts
 use Rattle.mq_history.specs.declared.calls.Call.TheVariants as calls
 use Rattle.mq_history.specs.declared.calls.Reply.TheVariants as replies

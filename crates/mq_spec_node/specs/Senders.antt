@@ -2,7 +2,7 @@
 use Rattle.std.specs.Prelude.{ℕ, Bool, true, false, List, [], ◌++◌, if◌then◌else◌, Option, Some, None}
 use Rattle.std.specs.Option.{option_map}
 use Rattle.mq_spec_node.specs.Terms.{Message, Frame, Seen, Luw, Settle, no_unit, unit_named, is_commit, PrepareFault, Doubt, SenderState, SenderDoes, SenderOut, Sender, is_running, awaits, timed_out, sender_next, sender_after, number_sent, bind_frame, message_frame, end_frame, Plain, Step, Part, do_all, Refuse, Do, names_of, stock, expire, hold_batch, batch_row, release_batch, prepare, harden, leave}
-use Rattle.mq_calls.specs.declared.agents.Note.TheVariants as notes
+use Rattle.mq_history.specs.from_calls.NoteVariants as notes
 use Rattle.mq_sender.specs.declared.turns.SenderDoes.TheVariants as does
 use Rattle.mq_sender.specs.declared.turns.SenderOut.TheVariants as outs
 use Rattle.mq_spec_node.specs.Node.{Node, Own, SenderEnd, with_end}

@@ -2,9 +2,9 @@
 use Rattle.std.specs.Prelude.{ℕ, Bool, List, [], ◌∷◌, ◌++◌, if◌then◌else◌, Option, Some, None, length, map, filter, take, codes}
 use Rattle.std.specs.Fmt.{decimal}
 use Rattle.std.specs.Str.{bytes_eq}
-use Rattle.mq_objects.specs.Attributes.{in_brackets}
+use Rattle.mq_history.specs.from_objects.Attributes.{in_brackets}
 use Rattle.mq_spec_node.specs.Terms.{InDoubt, SenderData, ReceiverData, no_unit, unit_text, SenderState, ReceiverState, Plain, is_up, sender_data, receiver_data, sender_or, receiver_or}
-use Rattle.mq_calls.specs.declared.commands.ScRefusal.TheVariants as refusals
+use Rattle.mq_history.specs.from_calls.ScRefusalVariants as refusals
 use Rattle.mq_history.specs.declared.acts.Acted.TheVariants as acted
 use Rattle.mq_history.specs.declared.calls.Reply.TheVariants as replies
 use Rattle.mq_sender.specs.declared.state.SenderState.TheVariants as sender_states

@@ -1,11 +1,11 @@
 -- What is seen of a node by its contracts, and how its calls make it grow: by entries.
 use Rattle.std.specs.Prelude.{◌≡◌, ℕ, ◌<◌, ◌^◌, nat_le, Bool, ◌||◌, List, [], ◌∷◌, ◌++◌, Option, Some, None, length, flat_map}
 use Rattle.mq_spec_node.specs.Terms.{Entry, Frame, Seen, History}
-use Rattle.mq_frame.specs.declared.frame.Seen.TheVariants as items
-use Rattle.mq_frame.specs.Frames.{frame_bytes}
-use Rattle.mq_frame.specs.Sight.{Shows}
-use Rattle.mq_cable.specs.declared.item.Item.{Item}
-use Rattle.mq_cable.specs.Faults.{Offer}
+use Rattle.mq_history.specs.from_frame.SeenVariants as items
+use Rattle.mq_history.specs.from_frame.Frames.{frame_bytes}
+use Rattle.mq_history.specs.from_frame.Sight.{Shows}
+use Rattle.mq_history.specs.from_cable.{Item}
+use Rattle.mq_history.specs.from_cable.Faults.{Offer}
 use Rattle.mq_spec_node.specs.Node.{Node}
 use Rattle.mq_spec_node.specs.Replays.{Surroundings, Replays, TriggersStand, opening_node, state_of}
 

@@ -14,7 +14,7 @@ use Rattle.mq_history.specs.declared.calls.Actor.{Actor}
 use Rattle.mq_spec_node.specs.Terms.{Entry}
 use Rattle.mq_spec_node.specs.Words.{by, item_of, items_of, stamp_after}
 use Rattle.mq_spec_network.specs.Cables.{is_popped, pops_item}
-use Rattle.mq_wires.specs.Wires.{HasOffered}
+use Rattle.mq_ways.specs.from_wires.Wires.{HasOffered}
 use Rattle.mq_ways.specs.Ways.{IsQuietEntry}
 use Rattle.mq_ruled.specs.Ends.{PipeTook, PipeWrote}
 use Rattle.mq_split.specs.Facing.{Facing}

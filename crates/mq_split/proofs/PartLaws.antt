@@ -5,8 +5,7 @@ use Rattle.std.proofs.lemmas.Bool.Decides.{nat_tests}
 use Rattle.atomic_table.specs.Seated.{TableId}
 use Rattle.mq_history.specs.declared.scenario.CableLine.{CableLine}
 use Rattle.mq_spec_node.specs.Terms.{Entry}
-use Rattle.mq_spec_node.specs.Words.{is_receiver, is_sender}
-use Rattle.mq_ways.specs.Ways.{CableState}
+use Rattle.mq_ways.specs.Ways.{CableState, WayState}
 use Rattle.mq_split.specs.declared.opening.Passes.{Passes}
 use Rattle.mq_split.specs.declared.opening.Pipes.{Pipes}
 use Rattle.mq_split.specs.Facing.{AreJoined, Facing, IsJoined}
@@ -89,44 +88,31 @@ module _ (b : Parted) (names : ℕ → List (ℕ × Bool)) (room k r s : ℕ) (f
       subst (λ (t : Bool). AreRows b (λ m. after_far m ++ named_at s m k t) room new) side
       (subst (λ (n : ℕ). AreRows b (λ m. after_far m ++ named_at s m n near.sends) room new) cable (rows_more b after_far room s near mid new h end free a))
 
--- AN END AS A PHASE BEGINS
--- of the sender
-pub near_begins : (b : Parted) (k : ℕ) (l : CableLine) (t u : TableId) (c : CableState) (e : EndState) → slice_get b.lines k ≡ Some l → slice_get b.outs k ≡ Some t → slice_get b.backs k ≡ Some u → IsJoined k l b.done c
-    → e.cable ≡ k → e.sends ≡ true → e.offers ≡ c.out.offers → e.wire.out ≡ t → e.wire.from ≡ u → e.wire.sent ≡ c.out.items → e.wire.taken ≡ [] → IsEndAt b l.sender (b.done l.sender) [] e
-near_begins b k l t u c e line outs backs j cable sends offers out from sent taken = record {
+-- AN END AS A PHASE BEGINS, the sender's or the receiver's
+pub begins : (b : Parted) (k : ℕ) (l : CableLine) (side : Bool) (t u : TableId) (w : WayState) (e : EndState) → slice_get b.lines k ≡ Some l → queue_at b k side ≡ Some t → queue_at b k (not side) ≡ Some u
+    → Facing (faults_at l side) (acts_as k side) (acts_as k (not side)) (b.done (manager_at l side)) (b.done (manager_at l (not side))) w
+    → e.cable ≡ k → e.sends ≡ side → e.offers ≡ w.offers → e.wire.out ≡ t → e.wire.from ≡ u → e.wire.sent ≡ w.items → e.wire.taken ≡ [] → IsEndAt b (manager_at l side) (b.done (manager_at l side)) [] e
+begins b k l side t u w e line outs backs faces cable sends offers out from sent taken = record {
   line = l;
   there = ap (λ (n : ℕ). slice_get b.lines n) cable ∙ line;
   here = ap (λ (s : Bool). manager_at l s) sends;
-  out = ap (λ (s : Bool). queue_at b e.cable s) sends ∙ ap (λ (n : ℕ). slice_get b.outs n) cable ∙ outs ∙ ap Some (sym out);
-  from = ap (λ (s : Bool). queue_at b e.cable (not s)) sends ∙ ap (λ (n : ℕ). slice_get b.backs n) cable ∙ backs ∙ ap Some (sym from);
-  kept = subst (λ (s : Bool). EndKept (faults_at l s) (acts_as e.cable s) (acts_as e.cable (not s)) (b.done l.sender) (b.done (manager_at l (not s))) [] e) (sym sends)
-      (subst (λ (n : ℕ). EndKept l.out (is_sender n) (is_receiver n) (b.done l.sender) (b.done l.receiver) [] e) (sym cable)
+  out = (λ i. queue_at b (cable i) (sends i)) ∙ outs ∙ ap Some (sym out);
+  from = (λ i. queue_at b (cable i) (not (sends i))) ∙ backs ∙ ap Some (sym from);
+  kept = subst (λ (s : Bool). EndKept (faults_at l s) (acts_as e.cable s) (acts_as e.cable (not s)) mine (b.done (manager_at l (not s))) [] e) (sym sends)
+      (subst (λ (n : ℕ). EndKept (faults_at l side) (acts_as n side) (acts_as n (not side)) mine (b.done (manager_at l (not side))) [] e) (sym cable)
       (record {
-        write = subst (λ (es : List Entry). Facing l.out (is_sender k) (is_receiver k) es (b.done l.receiver) (way e.wire.sent e.offers)) (sym (append-nil (b.done l.sender)))
-            (subst (λ (xs : List _). Facing l.out (is_sender k) (is_receiver k) (b.done l.sender) (b.done l.receiver) (way xs e.offers)) (sym sent)
-            (subst (λ (o : _). Facing l.out (is_sender k) (is_receiver k) (b.done l.sender) (b.done l.receiver) (way c.out.items o)) (sym offers) j.out));
+        write = subst (λ (es : List Entry). Faces es (way e.wire.sent e.offers)) (sym (append-nil mine))
+            (subst (λ (xs : List _). Faces mine (way xs e.offers)) (sym sent)
+            (subst (λ (o : _). Faces mine (way w.items o)) (sym offers) faces));
         read = taken;
       }));
 }
+  where
+    mine : List Entry
+    mine = b.done (manager_at l side)
 
--- and of the receiver
-pub far_begins : (b : Parted) (k : ℕ) (l : CableLine) (t u : TableId) (c : CableState) (e : EndState) → slice_get b.lines k ≡ Some l → slice_get b.outs k ≡ Some t → slice_get b.backs k ≡ Some u → IsJoined k l b.done c
-    → e.cable ≡ k → e.sends ≡ false → e.offers ≡ c.back.offers → e.wire.out ≡ u → e.wire.from ≡ t → e.wire.sent ≡ c.back.items → e.wire.taken ≡ [] → IsEndAt b l.receiver (b.done l.receiver) [] e
-far_begins b k l t u c e line outs backs j cable sends offers out from sent taken = record {
-  line = l;
-  there = ap (λ (n : ℕ). slice_get b.lines n) cable ∙ line;
-  here = ap (λ (s : Bool). manager_at l s) sends;
-  out = ap (λ (s : Bool). queue_at b e.cable s) sends ∙ ap (λ (n : ℕ). slice_get b.backs n) cable ∙ backs ∙ ap Some (sym out);
-  from = ap (λ (s : Bool). queue_at b e.cable (not s)) sends ∙ ap (λ (n : ℕ). slice_get b.outs n) cable ∙ outs ∙ ap Some (sym from);
-  kept = subst (λ (s : Bool). EndKept (faults_at l s) (acts_as e.cable s) (acts_as e.cable (not s)) (b.done l.receiver) (b.done (manager_at l (not s))) [] e) (sym sends)
-      (subst (λ (n : ℕ). EndKept l.back (is_receiver n) (is_sender n) (b.done l.receiver) (b.done l.sender) [] e) (sym cable)
-      (record {
-        write = subst (λ (es : List Entry). Facing l.back (is_receiver k) (is_sender k) es (b.done l.sender) (way e.wire.sent e.offers)) (sym (append-nil (b.done l.receiver)))
-            (subst (λ (xs : List _). Facing l.back (is_receiver k) (is_sender k) (b.done l.receiver) (b.done l.sender) (way xs e.offers)) (sym sent)
-            (subst (λ (o : _). Facing l.back (is_receiver k) (is_sender k) (b.done l.receiver) (b.done l.sender) (way c.back.items o)) (sym offers) j.back));
-        read = taken;
-      }));
-}
+    Faces : List Entry → WayState → Type 0
+    Faces es x = Facing (faults_at l side) (acts_as k side) (acts_as k (not side)) es (b.done (manager_at l (not side))) x
 
 -- ONE END LESS
 pub ends_less : (b : Parted) (since : ℕ → List Entry) (names : ℕ → List (ℕ × Bool)) (at k : ℕ) (side : Bool) (e : EndState) (old new : List (List EndState)) → AreEnds b since (λ n. names n ++ named_at at n k side) old → IsTaken at e old new

@@ -56,7 +56,7 @@ shown_both (e ∷ es) xs h k = (h.0, shown_both es xs h.1 k)
 shown_more : (test : Actor → Bool) (es xs : List Entry) → AllByRecursion (IsQuietEntry test) xs → AreShown (by test es) → AreShown (by test (es ++ xs))
 shown_more test es xs q h = subst AreShown (sym (filter-append (λ (e : Entry). test e.actor) es xs)) (shown_both (by test es) (by test xs) h (shown_quiet test xs q))
 
-no_item : (test : Actor → Bool) (e : Entry) → IsQuietEntry test e → pops_item test e ≡ false
+pub no_item : (test : Actor → Bool) (e : Entry) → IsQuietEntry test e → pops_item test e ≡ false
 no_item test e (inl other) = ap (λ (b : Bool). b && is_popped e) other
 no_item test e (inr (none, popped)) = ap (λ (b : Bool). test e.actor && b) popped ∙ never (test e.actor)
   where

@@ -14,6 +14,7 @@ use Rattle.mq_ways.specs.Ways.{IsQuietEntry}
 use Rattle.mq_split.specs.Facing.{Facing}
 use Rattle.mq_split.specs.Took.{Took, way}
 use Rattle.mq_split.proofs.FacingLaws.{facing_popped, facing_unread}
+use Rattle.mq_split.proofs.QuietLaws.{no_item}
 
 -- one stretch behind another
 pub took_on : (test : Actor → Bool) (last : ℕ) (es fs : List Entry) (xs ys : List Item) → Took test last es xs → Took test (stamp_after last es) fs ys → Took test last (es ++ fs) (xs ++ ys)
@@ -22,15 +23,6 @@ took_on test last (e ∷ es) fs [] [] h k = (h.0, took_on test e.stamp es fs [] 
 took_on test last (e ∷ es) fs [] (y ∷ ys) h k = inl (h.0, took_on test e.stamp es fs [] (y ∷ ys) h.1 k)
 took_on test last (e ∷ es) fs (x ∷ xs) ys (inl h) k = inl (h.0, took_on test e.stamp es fs (x ∷ xs) ys h.1 k)
 took_on test last (e ∷ es) fs (x ∷ xs) ys (inr h) k = inr (h.0, h.1, h.2, took_on test e.stamp es fs xs ys h.3 k)
-
--- entries of others, and those that pop nothing
-no_item : (test : Actor → Bool) (e : Entry) → IsQuietEntry test e → pops_item test e ≡ false
-no_item test e (inl other) = ap (λ (b : Bool). b && is_popped e) other
-no_item test e (inr (none, popped)) = ap (λ (b : Bool). test e.actor && b) popped ∙ never (test e.actor)
-  where
-    never : (b : Bool) → (b && false) ≡ false
-    never true = refl
-    never false = refl
 
 pub took_none : (test : Actor → Bool) (last : ℕ) (es : List Entry) → AllByRecursion (IsQuietEntry test) es → Took test last es []
 took_none test last [] q = refl

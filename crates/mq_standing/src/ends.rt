@@ -7,11 +7,11 @@ ghost use Rattle.mq_spec_node.specs.Node.{as_receiver, as_sender, receiver_end, 
 ghost use Rattle.mq_standing.specs.Stands.{receiver_if, receiver_standing, receiver_told, sender_if, sender_standing, sender_told, unit_of};
 
 use mq_base::ChName;
+use mq_cabled::below::{ChannelEnd, EndKind, Own, ReceiverEnd, SenderEnd};
 use mq_cabled::end_in;
 use mq_core::Core;
 use mq_disk::Disk;
 use mq_net_stands::{ReceiverStanding, SenderStanding};
-use mq_own::{ChannelEnd, EndKind, Own, ReceiverEnd, SenderEnd};
 use mq_sides::{receiver_data, sender_of};
 use mq_sync::{InDoubt, ReceiverData, SenderData, Unit};
 

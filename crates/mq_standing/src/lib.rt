@@ -7,4 +7,4 @@ mod rows;
 
 pub use ends::{receiver_standing, sender_standing};
 pub use queues::manager_standing;
-pub use rows::{copy_row, put_rows};
+pub use rows::put_rows;

@@ -1,36 +1,17 @@
 //! The rows of a queue, copied in order of place.
-ghost use Rattle.std.specs.Prelude.{◌≡◌, ◌++◌, ◌∷◌, [], IfOk, OnOk};
+ghost use Rattle.std.specs.Prelude.{◌≡◌, ◌++◌, ◌∷◌, [], OnOk};
 ghost use Rattle.mq_calls.specs.Reads.{queue_in};
 ghost use Rattle.mq_place.specs.States.{queues_of};
 
 use mq_base::{Items, NoMemory, QName};
-use mq_message::{Bytes, Message};
 use mq_place::{LocalRows, Queues};
 use mq_queue::{Queue, Row};
 use std::alloc::Global;
 
-/// A copy of a row.
-pub fn copy_row(alloc: Global, row: &Row) -> Result<Row, NoMemory>
-    ensures { IfOk result (λ r. r ≡ row.now) }
-{
-    let body = Bytes::from_slice(alloc, row.message.body.as_slice())?;
-    Ok(Row {
-        place: row.place,
-        message: Message {
-            ident: row.message.ident,
-            md: row.message.md,
-            route: row.message.route,
-            deadline: row.message.deadline,
-            body,
-        },
-        by: row.by,
-    })
-}
-
 fn put_row(out: &mut Items<Row>, alloc: Global, row: &Row) -> Result<(), NoMemory>
     ensures { OnOk result (out.new ≡ out.old ++ row.now ∷ []) }
 {
-    let copy = copy_row(alloc, row)?;
+    let copy = row.try_clone(alloc)?;
     out.push(copy)?;
     Ok(())
 }

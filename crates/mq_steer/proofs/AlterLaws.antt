@@ -18,7 +18,7 @@ use Rattle.mq_calls.specs.State.Change.{ChangeObjects}
 use Rattle.mq_calls.specs.Words.{Plain, Running, apply, apply_all, set_queue, queue_in, puts_to}
 use Rattle.mq_spec_manager.specs.Commands.{object_part, follows, renewed_if, stale_if, switched_if}
 use Rattle.mq_law_manager.proofs.Commanding.{no_length}
-use Rattle.mq_handles.specs.Desks.{Desk}
+use Rattle.mq_core.specs.from_handles.Desks.{Desk}
 use Rattle.mq_place.specs.States.{QueueState, queues_of, state_in, change_state, switched_on, with_lanes, rows_in}
 use Rattle.mq_place.proofs.PlainLaws.{defined_as, deleted_as, changed_as}
 use Rattle.mq_core.specs.Views.{PartsValue, plain_of, frozen_of, running_of}

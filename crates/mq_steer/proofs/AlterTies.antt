@@ -24,7 +24,7 @@ use Rattle.mq_calls.specs.declared.state.Connection.{Connection}
 use Rattle.mq_calls.specs.Reads.{is_put_to}
 use Rattle.mq_law_manager.specs.Facts.{AreOnce, is_local}
 use Rattle.mq_law_manager.proofs.Objects.{set_found, delete_found}
-use Rattle.mq_handles.specs.Desks.{Desk}
+use Rattle.mq_core.specs.from_handles.Desks.{Desk}
 use Rattle.mq_place.specs.States.{QueueState, queues_of, state_in, change_state, on_queue, switched_on, with_lanes, fresh_state, without_state}
 use Rattle.mq_core.specs.Views.{PartsValue, plain_of}
 use Rattle.mq_core.specs.Ties.{Tied, SameUnits, state_lanes, local_lanes, pending_at, times_in_rows, times_in_queues, times_in_units, times_in_unit, AreForced}

@@ -24,7 +24,7 @@ use Rattle.mq_core.specs.Views.{PartsValue, plain_of}
 use Rattle.mq_core.specs.Values.{bodies_in}
 use Rattle.mq_core.specs.Ties.{Tied, EndsReady, mode_is_up}
 use Rattle.mq_core.specs.Forced.{IsForced, downed}
-use Rattle.mq_core.proofs.ForceLaws.{forced_view, frozen_view, tied_downed, stops_at}
+use Rattle.mq_core.proofs.ForceLaws.{forced_view, frozen_view, tied_where, tied_downed, stops_at}
 use Rattle.mq_steer.specs.Altered.{IsMarked, CanChange, HasRooms, IsRoomy, altered, change_step}
 use Rattle.mq_steer.proofs.AlterLaws.{altered_view}
 use Rattle.mq_steer.proofs.AlterTies.{altered_tied}
@@ -52,22 +52,13 @@ tied_forced r long x y z e h f t =
     let held = ap (λ (w : PartsValue). w.log.reserved) h.rooms.same in
     let kept = ap (λ (l : LogState). l.reserved) f.log in
     let most = ap (λ (l : LogState). l.max) f.log in
-    subst Tied (sym f.same) (record {
-      up = λ u. let w = ty.up u in record {
-        live = ap (λ (l : LogState). l.live) f.log ∙ w.live;
-        settled = ap (λ (l : LogState). l.pending) f.log ∙ w.settled;
-        ends = subst (EndsReady y.ends) (sym (ap (λ (l : LogState). l.spare) f.log)) w.ends;
-        room = omega (arith, held, kept, f.room, h.log, e);
-        body = omega (arith, kept, w.body, f.body);
-      };
-      reserved = λ u. kept ∙ ty.reserved u;
-      within = λ u. let w = ty.within u in omega (arith, kept, most, w);
-      queues = record { lanes = ty.queues.lanes; pending = ty.queues.pending };
-      idents = record { once = ty.idents.once; given = ty.idents.given };
-      forced = ty.forced;
-      max = let w = ty.max in omega (arith, most, w);
-      moment = ty.moment;
-    })
+    subst Tied (sym f.same) (tied_where [] [] y.ends z.log z.body y.mode y (λ u. let w = ty.up u in record {
+      live = ap (λ (l : LogState). l.live) f.log ∙ w.live;
+      settled = ap (λ (l : LogState). l.pending) f.log ∙ w.settled;
+      ends = subst (EndsReady y.ends) (sym (ap (λ (l : LogState). l.spare) f.log)) w.ends;
+      room = omega (arith, held, kept, f.room, h.log, e);
+      body = omega (arith, kept, w.body, f.body);
+    }) (λ u. kept ∙ ty.reserved u) (λ u. let w = ty.within u in omega (arith, kept, most, w)) (let w = ty.max in omega (arith, most, w)) ty)
 
 -- what a change keeps to does not look at the log
 marked_logged : (new : Object) (reroutes on : Bool) (p : Plain) (log : PlainLog) → IsMarked new reroutes on p → IsMarked new reroutes on (record p { log = log })

@@ -24,7 +24,7 @@ use Rattle.mq_calls.specs.declared.commands.Halt.{Halt}
 use Rattle.mq_resolve.specs.declared.route.PathStep.TheVariants as steps
 use Rattle.mq_spec_manager.specs.Commands.{uses_of, command, object_part}
 use Rattle.mq_law_manager.specs.Facts.{is_local}
-use Rattle.mq_handles.specs.Desks.{Desk}
+use Rattle.mq_core.specs.from_handles.Desks.{Desk}
 use Rattle.mq_place.specs.States.{QueueState, change_state, on_queue, switched_on, with_lanes, fresh_state, without_state, rows_in}
 use Rattle.mq_core.specs.Views.{PartsValue}
 

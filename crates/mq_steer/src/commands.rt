@@ -1,13 +1,12 @@
 //! Commands on objects.
 ghost use Rattle.std.specs.Prelude.{◌≡◌, ◌+◌, ◌<◌, ◌≤◌, ◌^◌, [], length, true, Ok, OnOk, OnErr, IfOk};
-ghost use Rattle.mq_objects.specs.Names.{is_by_priority, local_of, name_of};
+ghost use Rattle.mq_objects.specs.Names.{local_of, name_of};
 ghost use Rattle.mq_objects.specs.declared.object.Object.TheVariants as objects;
 ghost use Rattle.mq_objects.specs.declared.change.ObjectChange.TheVariants as changes;
 ghost use Rattle.mq_resolve.specs.declared.route.PathStep.TheVariants as steps;
 ghost use Rattle.mq_calls.specs.declared.records.LogRecord.TheVariants as records;
-ghost use Rattle.mq_record.specs.Records.{operation_of};
+ghost use Rattle.mq_core.specs.from_record.Records.{operation_of};
 ghost use Rattle.mq_law_manager.specs.Facts.{AreOnce};
-ghost use Rattle.mq_sc_apply.specs.Planned.{same_delivery};
 ghost use Rattle.mq_calls.specs.Words.{MeetsOrWants, is_up, change_text};
 ghost use Rattle.mq_spec_manager.specs.Commands.{command};
 ghost use Rattle.mq_core.specs.declared.parts.StoppedWrite.TheVariants as writes;
@@ -21,15 +20,15 @@ ghost use Rattle.mq_core.specs.Values.{manager_of, WritesLog};
 use crate::uses::ObjectUse;
 use mq_base::{Items, NoMemory, QName};
 use mq_calls::{Halt, ScRefusal, Shown};
+use mq_core::below::{Operation, objects_front};
 use mq_core::{Core, Mode, Parts, StoppedWrite};
 use mq_disk::{Disk, Stop};
 use mq_objects::{
-    Command, Delivery, LocalQueue, Object, ObjectChange, Subject, define_text, delete_text,
+    Command, LocalQueue, Object, ObjectChange, Subject, define_text, delete_text, is_by_priority,
     manager_text,
 };
-use mq_record::{Operation, objects_front};
 use mq_resolve::PathStep;
-use mq_sc_apply::{Plan, Planned, plan};
+use mq_sc_apply::{Plan, Planned, plan, same_delivery};
 use std::alloc::Global;
 
 /// The text of a record is shorter.
@@ -57,25 +56,6 @@ fn operation_of(change: &ObjectChange) -> Operation
         ObjectChange::Set(_) => Operation::Set,
         ObjectChange::SetManager(_) => Operation::Set,
         ObjectChange::Delete(_) => Operation::Delete,
-    }
-}
-
-fn is_by_priority(delivery: Delivery) -> bool
-    ensures { result ≡ is_by_priority delivery }
-{
-    match delivery {
-        Delivery::Priority => true,
-        Delivery::Fifo => false,
-    }
-}
-
-fn same_delivery(a: Delivery, b: Delivery) -> bool
-    ensures { result ≡ same_delivery a b }
-{
-    if is_by_priority(a) {
-        is_by_priority(b)
-    } else {
-        !is_by_priority(b)
     }
 }
 

@@ -3,8 +3,8 @@ ghost use Rattle.std.specs.Prelude.{◌≡◌, []};
 
 use mq_calls::Delta;
 use mq_core::Core;
+use mq_core::below::Effects;
 use mq_disk::Disk;
-use mq_unit::Effects;
 
 /// What the last call changed, and none is left. It takes no memory.
 pub fn take_delta<D: Disk>(core: &mut Core<D>) -> Delta

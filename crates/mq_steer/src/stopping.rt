@@ -10,12 +10,11 @@ ghost use Rattle.mq_steer.specs.Rests.{AreHeld, batches_released, unawaited, obj
 
 use mq_base::QName;
 use mq_calls::Batch;
+use mq_core::below::{IndexedQueue, KeptBatch};
 use mq_core::{Core, Mode, Parts};
 use mq_disk::Disk;
-use mq_index::IndexedQueue;
 use mq_objects::Object;
 use mq_place::Queues;
-use mq_sides::KeptBatch;
 
 /// The rows of a batch are free again.
 fn release_one(queues: &mut Queues<IndexedQueue>, batch: &Batch)

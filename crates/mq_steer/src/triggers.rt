@@ -1,5 +1,5 @@
 //! Trigger turns.
-ghost use Rattle.std.specs.Prelude.{◌≡◌, ℕ, List, [], ◌∷◌, None, ◌+◌, ◌<◌, ◌^◌, ◌≤◌, is_some, nat_lt, option_copied, true, Some, OnOk, OnErr};
+ghost use Rattle.std.specs.Prelude.{◌≡◌, ℕ, List, [], ◌∷◌, None, ◌+◌, ◌<◌, ◌^◌, is_some, nat_lt, option_copied, true, Some};
 ghost use Rattle.mq_calls.specs.Words.{Meets, Do, apply, stored, local_of, locals_of, process_of, is_transmission, is_up};
 ghost use Rattle.mq_objects.specs.Names.{locals_in};
 ghost use Rattle.mq_core.specs.Counting.{CanCount};
@@ -7,7 +7,6 @@ ghost use Rattle.mq_calls.specs.State.Change.{Serve};
 ghost use Rattle.mq_spec_manager.specs.Triggers.{first_due, takes_it, serve_into, serve_by, trigger_turn};
 ghost use Rattle.mq_core.specs.Views.{plain_of};
 ghost use Rattle.mq_core.specs.Ties.{Tied, IsReady};
-ghost use Rattle.mq_core.specs.Forced.{IsExpected, HasMoreRoom};
 ghost use Rattle.mq_core.specs.Placing.{arrived_at};
 ghost use Rattle.mq_steer.specs.Due.{next_due};
 ghost use Rattle.mq_steer.specs.Turns.{Serves, IsTurn, IsServed, IsServedOr, IsDue, CanSend, sent_part, served_at, numbered, halted};
@@ -15,15 +14,14 @@ ghost use Rattle.mq_core.specs.Values.{manager_of, WritesLog};
 
 use mq_base::{NoMemory, QName};
 use mq_calls::Did;
-use mq_core::{Core, Parts};
+use mq_core::below::trigger_message;
+use mq_core::{Core, Parts, make_put_room};
 use mq_disk::Disk;
 use mq_fill::{is_inhibited, max_depth, max_length};
 use mq_message::Message;
 use mq_objects::{LocalQueue, NameSpace, Object, Process, Usage};
 use mq_place::DueAt;
 use mq_resolve::PathStep;
-use mq_trigger::trigger_message;
-use mq_unit::Effects;
 
 /// The length of a trigger message's body, in bytes (IBM MQ: MQTM).
 const TM_LENGTH: u32 = 684;
@@ -216,22 +214,6 @@ fn next_turn<D: Disk>(parts: &Parts<D>) -> Result<Option<Serving>, NoMemory>
     }
 }
 
-/// Takes the memory of a trigger message: for its row, and for what is told.
-fn make_room<D: Disk>(
-    parts: &mut Parts<D>,
-    effects: &mut Effects,
-    queue: &QName,
-) -> Result<(), NoMemory>
-    ensures ok { OnOk result (IsExpected queue.now 0 parts.old parts.new) }
-    ensures err { OnErr result (HasMoreRoom parts.old parts.new) }
-    ensures dids { effects.new.dids ≡ effects.old.dids }
-    ensures room { OnOk result (1 ≤ effects.new.room) }
-{
-    effects.reserve(1)?;
-    parts.expect_put(queue, 0)?;
-    Ok(())
-}
-
 fn serve<D: Disk>(parts: &mut Parts<D>, from: &QName)
     ensures { parts.new ≡ served_at from.now parts.old }
 {
@@ -272,7 +254,7 @@ fn send<D: Disk>(
 {
     core.begin_call();
     let ident = message.ident;
-    match make_room(&mut core.parts, &mut core.effects, to) {
+    match make_put_room(&mut core.parts, &mut core.effects, to, 0) {
         Ok(()) => {}
         Err(NoMemory) => return Err(NoMemory),
     }

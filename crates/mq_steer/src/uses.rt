@@ -7,11 +7,11 @@ ghost use Rattle.mq_core.specs.Ties.{Tied};
 
 use mq_base::{ChName, QName};
 use mq_calls::Seizure;
+use mq_core::below::KeptSender;
 use mq_core::{ChannelEnds, Core, Parts};
 use mq_disk::Disk;
 use mq_resolve::PathStep;
 use mq_sc_apply::InUse;
-use mq_sides::KeptSender;
 
 fn is_seized(seizures: &[Seizure], channel: &ChName) -> bool
     ensures { result ≡ is_some (seizure_of channel.now seizures.now) }

@@ -4,8 +4,8 @@ use Rattle.std.proofs.Common.{ap, subst, sym, arith, ◌∙◌}
 use Rattle.std.proofs.lemmas.List.{length-drop, take_all}
 use Rattle.mq_history.specs.declared.scenario.ScriptPart.{ScriptPart}
 use Rattle.mq_history.specs.declared.scripts.ScriptLine.{ScriptLine}
-use Rattle.mq_spec_node.specs.Node.{Node}
-use Rattle.mq_spec_node.specs.Lines.{lines_by}
+use Rattle.mq_spec_network.specs.from_spec_node.Node.{Node}
+use Rattle.mq_spec_network.specs.from_spec_node.Lines.{lines_by}
 use Rattle.mq_spec_network.specs.Turns.{Network, node_at}
 use Rattle.mq_spec_network.specs.ScriptLines.{at_most, lines_left}
 use Rattle.mq_spec_network.specs.Tasks.{Task, run_script}

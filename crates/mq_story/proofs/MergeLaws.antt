@@ -7,8 +7,7 @@ use Rattle.std.proofs.lemmas.Bool.Decides.{nat_tests}
 use Rattle.std.proofs.lemmas.List.{get_or-set_same, get_or-set_other, drop_more}
 use Rattle.std.proofs.lemmas.List.Concat.{flat_map-append}
 use Rattle.mq_base.specs.Members.{Mem, Chain}
-use Rattle.mq_history.specs.declared.calls.Entry.{Entry}
-use Rattle.mq_history.specs.declared.history.History.{History}
+use Rattle.mq_spec_network.specs.from_history.{Entry, History}
 use Rattle.mq_spec_network.specs.Story.{Line, Earlier, Ranked, part, entries_or, entries_at, IsStory}
 use Rattle.mq_story.specs.declared.merging.Spot.{Spot}
 use Rattle.mq_story.specs.Spots.{entry_in, entry_of, line_if, line_at, lines_of, Sooner, AreRising, stamp_of, earlier_of, head_at, head_of, IsLeast, IsFirstOf, IsFirst, rest_at, IsMerged, left}

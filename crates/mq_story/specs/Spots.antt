@@ -2,8 +2,7 @@
 use Rattle.std.specs.Prelude.{ℕ, ◌≡◌, ◌+◌, ◌-◌, ◌<◌, nat_le, List, [], ◌∷◌, ◌++◌, Option, Some, None, slice_get, get_or, drop, length, if◌then◌else◌}
 use Rattle.std.specs.List.{flat_map}
 use Rattle.mq_base.specs.Members.{Mem, Chain}
-use Rattle.mq_history.specs.declared.calls.Entry.{Entry}
-use Rattle.mq_history.specs.declared.history.History.{History}
+use Rattle.mq_spec_network.specs.from_history.{Entry, History}
 use Rattle.mq_spec_network.specs.Story.{Line, Earlier, Ranked, part, entries_at}
 use Rattle.mq_story.specs.declared.merging.Spot.{Spot}
 

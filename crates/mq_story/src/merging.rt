@@ -4,7 +4,7 @@ ghost use Rattle.mq_spec_network.specs.Story.{IsStory};
 ghost use Rattle.mq_story.specs.Spots.{entry_of, lines_of, AreRising, stamp_of, IsFirst, earlier_of};
 
 use mq_base::{Items, NoMemory};
-use mq_history::{Entry, History};
+use mq_spec_network::below::{Entry, History};
 use std::alloc::Global;
 
 /// Where an entry of a story stands.

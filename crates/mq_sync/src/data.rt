@@ -1,8 +1,10 @@
 //! What the two ends of a channel harden, and what a sender sees of its transmission queue.
+ghost use Rattle.std.specs.Prelude.{◌≡◌, IfOk};
 
 use crate::unit::Unit;
-use mq_base::{Items, QName};
 use mq_message::Ident;
+use mq_message::below::{Items, QName};
+use std::alloc::{AllocError, Global};
 
 /// An end of a channel.
 #[derive(Clone, Copy, PartialEq, Eq)]
@@ -64,4 +66,22 @@ pub struct Stock {
     pub enabled: bool,
     pub expired: bool,
     pub free: u64,
+}
+
+/// A copy of what is in doubt, or `AllocError` where memory is short.
+pub fn copy_doubt(alloc: Global, doubt: &Option<InDoubt>) -> Result<Option<InDoubt>, AllocError>
+    ensures { IfOk result (λ copy. copy ≡ doubt.now) }
+{
+    match doubt {
+        None => Ok(None),
+        Some(doubt) => {
+            let idents = Items::from_slice(alloc, doubt.idents.as_slice())?;
+            Ok(Some(InDoubt {
+                unit: doubt.unit,
+                queue: doubt.queue,
+                idents,
+                last: doubt.last,
+            }))
+        }
+    }
 }

@@ -5,6 +5,6 @@ mod data;
 mod numbers;
 mod unit;
 
-pub use data::{ChannelData, Doubt, End, InDoubt, ReceiverData, SenderData, Stock};
+pub use data::{ChannelData, Doubt, End, InDoubt, ReceiverData, SenderData, Stock, copy_doubt};
 pub use numbers::next_number;
 pub use unit::{Settle, Unit, settle_of};

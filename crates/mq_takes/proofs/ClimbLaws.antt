@@ -14,10 +14,10 @@ use Rattle.mq_spec_manager.specs.Words.{placed}
 use Rattle.mq_spec_manager.specs.Agents.{Absent, InDoubtAt, Landed, Landing, Present, Standing, before, drop_changes, drop_row, is_present, land, land_changes, landed, landed_by, landed_unless, received_part, standing_at, undoubted}
 use Rattle.mq_law_manager.proofs.Named.{found_name}
 use Rattle.mq_law_manager.proofs.Units.{behind}
-use Rattle.mq_law_counts.specs.Counts.{Climbs, PartsClimb}
-use Rattle.mq_law_counts.proofs.Climbing.{climb_more, climb_on, grown, one_climbs, stay}
-use Rattle.mq_law_image.specs.Bounds.{all_growth}
-use Rattle.mq_law_image.proofs.Growing.{handles_more, le_self, set_rise}
+use Rattle.mq_turn_parts.specs.from_law_counts.Counts.{Climbs, PartsClimb}
+use Rattle.mq_turn_parts.proofs.from_law_counts.Climbing.{climb_more, climb_on, grown, one_climbs, stay}
+use Rattle.mq_turn_parts.specs.from_law_image.Bounds.{all_growth}
+use Rattle.mq_turn_parts.proofs.from_law_image.Growing.{handles_more, le_self, set_rise}
 
 -- Queues whose counters rise.
 abbrev ArriveBy : ℕ → List Queue → List Queue → Type 0

@@ -20,8 +20,8 @@ use Rattle.mq_receiver.specs.declared.turns.ReceiverDoes.TheVariants as does
 use Rattle.mq_receiver.specs.declared.turns.ReceiverOut.{ReceiverOut}
 use Rattle.mq_receiver.specs.declared.turns.ReceiverOut.TheVariants as outs
 use Rattle.mq_sync.specs.declared.unit.Unit.{Unit as Luw}
-use Rattle.mq_law_counts.specs.Counts.{Climbs}
-use Rattle.mq_law_counts.proofs.Climbing.{freeze_climbs, stay}
+use Rattle.mq_turn_parts.specs.from_law_counts.Counts.{Climbs}
+use Rattle.mq_turn_parts.proofs.from_law_counts.Climbing.{freeze_climbs, stay}
 use Rattle.mq_calls.specs.Changes.{apply_all}
 use Rattle.mq_calls.specs.Steps.{IsWrite, Part, do_all, note_of, stopped_at, tested, when}
 use Rattle.mq_calls.specs.Steps.Step.{Do, Refuse}
@@ -31,16 +31,16 @@ use Rattle.mq_spec_node.specs.Terms.{Actor, Call, Down, Entry, Message, Plain, R
 use Rattle.mq_spec_node.specs.Words.{ChannelEnd, Deed, Done, Node, Own, ReceiverEnd, Surroundings, Tells, Follows, IsDeed, IsEvent, CanCome, after, as_receiver, bind_parts, cable_of, choice_event, close_parts, deed_of, done, done_by, end_in, event, is_receiver_defined, kept_kind, kept_seen, more_entries, opening_node, place_deed, receiver_deed_by, receiver_end, receiver_turn, set_end, stamp_after, turned, where_up, with_end}
 use Rattle.std.specs.Option.{option_map}
 use Rattle.mq_spec_node.specs.Node.ChannelEnd.{Receives, Sends}
-use Rattle.mq_events.specs.States.{IsKept, NodeState, Spare, node_in}
-use Rattle.mq_events.specs.Counts.{IsNode, kept_in, kept_total, waiting_total}
-use Rattle.mq_events.specs.Events.{Adds}
-use Rattle.mq_events.proofs.CountLaws.{adds_long, climbs_counted, less_aside, next_is}
-use Rattle.mq_events.proofs.KeepLaws.{waits_less}
-use Rattle.mq_events.proofs.RiseLaws.{risen_more}
-use Rattle.mq_turns.specs.declared.telling.Turn.TheVariants as turns
-use Rattle.mq_turns.specs.declared.telling.Turn.{Turn}
-use Rattle.mq_turns.proofs.CountLaws.{stays_counted}
-use Rattle.mq_turns.proofs.QuietLaws.{BringNone, none_climb}
+use Rattle.mq_turn_parts.specs.from_events.States.{IsKept, NodeState, Spare, node_in}
+use Rattle.mq_turn_parts.specs.from_events.Counts.{IsNode, kept_in, kept_total, waiting_total}
+use Rattle.mq_turn_parts.specs.from_events.Events.{Adds}
+use Rattle.mq_turn_parts.proofs.from_events.CountLaws.{adds_long, climbs_counted, less_aside, next_is}
+use Rattle.mq_turn_parts.proofs.from_events.KeepLaws.{waits_less}
+use Rattle.mq_turn_parts.proofs.from_events.RiseLaws.{risen_more}
+use Rattle.mq_turn_parts.specs.declared.telling.Turn.TheVariants as turns
+use Rattle.mq_turn_parts.specs.declared.telling.Turn.{Turn}
+use Rattle.mq_turn_parts.proofs.CountLaws.{stays_counted}
+use Rattle.mq_turn_parts.proofs.QuietLaws.{BringNone, none_climb}
 use Rattle.mq_takes.specs.Turning.{TakesOne}
 use Rattle.mq_takes.proofs.ClimbLaws.{BatchClimbs, batch_climbs, commit_climbs}
 use Rattle.mq_takes.proofs.LiftLaws.{cable_found}

@@ -6,3 +6,4 @@ pub mod LiftLaws
 pub mod LookLaws
 pub mod ClimbLaws
 pub mod CountLaws
+pub mod from_turn_parts

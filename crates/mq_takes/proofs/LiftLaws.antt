@@ -13,14 +13,14 @@ use Rattle.mq_spec_node.specs.Words.{ChannelEnd, Deed, Own, ReceiverEnd, as_rece
 use Rattle.mq_spec_node.specs.Node.ChannelEnd.{Receives, Sends}
 use Rattle.mq_cabled.specs.Lifted.{lifted, lifted_ends, with_lifted}
 use Rattle.mq_cabled.proofs.EndLaws.{found_cable, set_lifted, set_same}
-use Rattle.mq_events.specs.States.{IsKept, IsLow, IsServed, NodeState, node_in}
-use Rattle.mq_events.specs.Events.{Adds, MayAct, Stays}
+use Rattle.mq_turn_parts.specs.from_events.States.{IsKept, IsLow, IsServed, NodeState, node_in}
+use Rattle.mq_turn_parts.specs.from_events.Events.{Adds, MayAct, Stays}
 use Rattle.mq_spec_manager.specs.Agents.{IsUp}
-use Rattle.mq_turns.specs.declared.telling.Turn.{Turn}
-use Rattle.mq_turns.specs.declared.telling.Turn.TheVariants as turns
-use Rattle.mq_turns.specs.Unseen.{EndTurn, Rests, turn_deed}
-use Rattle.mq_turns.specs.Wired.{Idles}
-use Rattle.mq_turns.proofs.DueLaws.{down_is}
+use Rattle.mq_turn_parts.specs.declared.telling.Turn.{Turn}
+use Rattle.mq_turn_parts.specs.declared.telling.Turn.TheVariants as turns
+use Rattle.mq_turn_parts.specs.Unseen.{EndTurn, Rests, turn_deed}
+use Rattle.mq_turn_parts.specs.Wired.{Idles}
+use Rattle.mq_turn_parts.proofs.DueLaws.{down_is}
 use Rattle.mq_takes.specs.Takes.{MayTake, whole}
 use Rattle.mq_takes.specs.Turning.{TakesOne}
 use Rattle.mq_takes.proofs.TakeLaws.{receiver_is}

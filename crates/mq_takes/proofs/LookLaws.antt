@@ -15,13 +15,13 @@ use Rattle.mq_receiver.specs.declared.turns.ReceiverDoes.TheVariants as does
 use Rattle.mq_spec_node.specs.Terms.{ReceiverDoes, Seen, owed_frame}
 use Rattle.mq_spec_node.specs.Words.{ReceiverEnd, is_receiver_defined, turned, with_end}
 use Rattle.mq_spec_node.specs.Node.ChannelEnd.{Receives}
-use Rattle.mq_events.specs.States.{NodeState, node_in}
+use Rattle.mq_turn_parts.specs.from_events.States.{NodeState, node_in}
 use Rattle.mq_wires.specs.Wires.{OffersNone}
-use Rattle.mq_turns.specs.declared.telling.Turn.{Turn}
-use Rattle.mq_turns.specs.declared.telling.Turn.TheVariants as turns
-use Rattle.mq_turns.specs.Unseen.{IsUnseen, Pushes, turn_deed}
-use Rattle.mq_turns.specs.Wired.{Idles}
-use Rattle.mq_turns.proofs.WireLaws.{turn_widened}
+use Rattle.mq_turn_parts.specs.declared.telling.Turn.{Turn}
+use Rattle.mq_turn_parts.specs.declared.telling.Turn.TheVariants as turns
+use Rattle.mq_turn_parts.specs.Unseen.{IsUnseen, Pushes, turn_deed}
+use Rattle.mq_turn_parts.specs.Wired.{Idles}
+use Rattle.mq_turn_parts.proofs.WireLaws.{turn_widened}
 use Rattle.mq_takes.specs.Takes.{MayTake, ReceivesTurn, paid, whole}
 use Rattle.mq_takes.specs.Turning.{TakesOne}
 use Rattle.mq_takes.proofs.TakeLaws.{owed_deed, put_so, turn_is}

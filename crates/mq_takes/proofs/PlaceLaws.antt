@@ -23,13 +23,13 @@ use Rattle.mq_spec_node.specs.Words.{Node, ReceiverEnd, close_parts, deed_of, is
 use Rattle.mq_spec_node.specs.Node.ChannelEnd.{Receives}
 use Rattle.mq_core.specs.Values.{CoreValue, manager_of}
 use Rattle.mq_law_manager.proofs.ShortSteps.{StepIsShort}
-use Rattle.mq_events.specs.States.{NodeState, node_in}
-use Rattle.mq_events.specs.declared.outcome.Told.{Told}
-use Rattle.mq_events.proofs.CallLaws.{where_wider}
-use Rattle.mq_turns.proofs.PartLaws.{le_self}
-use Rattle.mq_turns.specs.Turns.{IsAsWas, Made}
-use Rattle.mq_turns.proofs.AgentLaws.{agent_ran, agent_stopped}
-use Rattle.mq_manager.specs.Facts.{IsWell}
+use Rattle.mq_turn_parts.specs.from_events.States.{NodeState, node_in}
+use Rattle.mq_turn_parts.specs.from_events.{Told}
+use Rattle.mq_turn_parts.proofs.from_events.CallLaws.{where_wider}
+use Rattle.mq_turn_parts.proofs.PartLaws.{le_self}
+use Rattle.mq_turn_parts.specs.Turns.{IsAsWas, Made}
+use Rattle.mq_turn_parts.proofs.AgentLaws.{agent_ran, agent_stopped}
+use Rattle.mq_turn_parts.specs.from_manager.Facts.{IsWell}
 use Rattle.mq_spec_manager.specs.Agents.{IsUp}
 use Rattle.mq_takes.specs.Placing.{ReceivedAs}
 use Rattle.mq_takes.specs.Takes.{MayTake, Works, emptied, whole}

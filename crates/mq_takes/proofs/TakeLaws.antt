@@ -22,15 +22,15 @@ use Rattle.mq_spec_node.specs.Words.{ChannelEnd, Deed, IsPop, IsStamp, Node, Own
 use Rattle.mq_spec_node.specs.Node.ChannelEnd.{Receives, Sends}
 use Rattle.mq_wires.specs.Wires.{HasPushed, OfferTold, OffersNone, Sees}
 use Rattle.mq_cabled.proofs.EndLaws.{set_same, set_twice}
-use Rattle.mq_events.specs.States.{NodeState, node_in}
-use Rattle.mq_turns.specs.declared.telling.Passed.{Passed}
-use Rattle.mq_turns.specs.declared.telling.Turn.TheVariants as turns
-use Rattle.mq_turns.specs.Turns.{Made, own_by, pushed_by, turn_entry}
-use Rattle.mq_turns.specs.Told.{Closes, IsBefore, IsTold}
-use Rattle.mq_turns.proofs.PartLaws.{none_made}
-use Rattle.mq_turns.proofs.TurnLaws.{receiver_turns}
-use Rattle.mq_turns.proofs.DueLaws.{may_low, up_is}
-use Rattle.mq_turns.specs.Wired.{Popped, Refuses}
+use Rattle.mq_turn_parts.specs.from_events.States.{NodeState, node_in}
+use Rattle.mq_turn_parts.specs.declared.telling.Passed.{Passed}
+use Rattle.mq_turn_parts.specs.declared.telling.Turn.TheVariants as turns
+use Rattle.mq_turn_parts.specs.Turns.{Made, own_by, pushed_by, turn_entry}
+use Rattle.mq_turn_parts.specs.Told.{Closes, IsBefore, IsTold}
+use Rattle.mq_turn_parts.proofs.PartLaws.{none_made}
+use Rattle.mq_turn_parts.proofs.TurnLaws.{receiver_turns}
+use Rattle.mq_turn_parts.proofs.DueLaws.{may_low, up_is}
+use Rattle.mq_turn_parts.specs.Wired.{Popped, Refuses}
 use Rattle.mq_takes.specs.Takes.{IsQuietLine, Leaves, MayTake, ReceivesTurn, end_after, paid, whole}
 
 pub take_low : (s : NodeState) (e : ReceiverEnd) → MayTake e (whole e s) → s.stamp < 2 ^ 60

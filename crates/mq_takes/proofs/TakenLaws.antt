@@ -7,10 +7,10 @@ use Rattle.mq_spec_manager.specs.Agents.{Absent, InDoubtAt, Landed, Landing, Pre
 use Rattle.mq_law_manager.specs.Facts.{AreNamed, Sound}
 use Rattle.mq_core.specs.declared.parts.Arrival.{Arrival}
 use Rattle.mq_core.specs.Writes.{arrival_changes, standing_of}
-use Rattle.mq_receive.specs.Planned.{IsPlan}
-use Rattle.mq_receive.specs.Standings.{behind_all, has_landed, standing_among}
-use Rattle.mq_receive.proofs.LeadLaws.{state_more}
-use Rattle.mq_receive.proofs.PlanLaws.{plan_first, plan_left, plan_more, plan_over}
+use Rattle.mq_turn_parts.specs.from_receive.Planned.{IsPlan}
+use Rattle.mq_turn_parts.specs.from_receive.Standings.{behind_all, has_landed, standing_among}
+use Rattle.mq_turn_parts.proofs.from_receive.LeadLaws.{state_more}
+use Rattle.mq_turn_parts.proofs.from_receive.PlanLaws.{plan_first, plan_left, plan_more, plan_over}
 use Rattle.mq_law_manager.proofs.Receiving.{IsLanding, land_is}
 use Rattle.mq_takes.specs.Taken.{is_among, is_out, taken_behind}
 

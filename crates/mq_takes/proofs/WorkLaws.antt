@@ -20,13 +20,13 @@ use Rattle.mq_spec_node.specs.Words.{Own, ReceiverEnd, bind_parts, close_parts, 
 use Rattle.mq_spec_node.specs.Node.ChannelEnd.{Receives}
 use Rattle.mq_wires.specs.Wires.{Sees}
 use Rattle.mq_core.specs.Values.{CoreValue, manager_of}
-use Rattle.mq_events.specs.States.{IsKept, NodeState, node_in, value_of}
-use Rattle.mq_turns.specs.declared.telling.Turn.TheVariants as turns
-use Rattle.mq_turns.specs.Turns.{IsAsWas, IsBehind, Made, has_run, own_by}
-use Rattle.mq_turns.specs.Told.{Closes}
-use Rattle.mq_turns.specs.Wired.{Popped}
-use Rattle.mq_turns.proofs.PartLaws.{AreSilent, behind_if, behind_none, behind_ran, made_behind}
-use Rattle.mq_turns.proofs.TurnLaws.{before_of}
+use Rattle.mq_turn_parts.specs.from_events.States.{IsKept, NodeState, node_in, value_of}
+use Rattle.mq_turn_parts.specs.declared.telling.Turn.TheVariants as turns
+use Rattle.mq_turn_parts.specs.Turns.{IsAsWas, IsBehind, Made, has_run, own_by}
+use Rattle.mq_turn_parts.specs.Told.{Closes}
+use Rattle.mq_turn_parts.specs.Wired.{Popped}
+use Rattle.mq_turn_parts.proofs.PartLaws.{AreSilent, behind_if, behind_none, behind_ran, made_behind}
+use Rattle.mq_turn_parts.proofs.TurnLaws.{before_of}
 use Rattle.mq_takes.specs.Takes.{MayTake, ReceivesTurn, Works, bound_if, emptied, whole}
 use Rattle.mq_takes.proofs.TakeLaws.{taken_at, turn_is}
 

@@ -4,7 +4,7 @@ use Rattle.mq_base.specs.declared.want.NoMemory.{NoMemory as Want}
 use Rattle.mq_spec_node.specs.Terms.{Reason, Step, Refuse}
 use Rattle.mq_spec_node.specs.Words.{ReceiverEnd, close_parts, parts_of}
 use Rattle.mq_core.specs.Values.{CoreValue}
-use Rattle.mq_turns.specs.Turns.{IsAsWas, Made}
+use Rattle.mq_turn_parts.specs.Turns.{IsAsWas, Made}
 use Rattle.mq_takes.specs.Taken.{IsDone}
 use Rattle.mq_takes.specs.declared.receiving.BatchTold.{BatchTold}
 use Rattle.mq_takes.specs.declared.receiving.BatchTold.TheVariants as came

@@ -1,5 +1,5 @@
 -- A receiver's turn: what is known before it, and what it comes to.
-use Rattle.std.specs.Prelude.{◌≡◌, ◌+◌, ℕ, Bool, List, [], Some, None, Result}
+use Rattle.std.specs.Prelude.{◌≡◌, ◌+◌, ◌<◌, ℕ, Bool, List, [], Some, None, Result}
 use Rattle.mq_base.specs.declared.want.NoMemory.{NoMemory as Want}
 use Rattle.mq_cable.specs.declared.item.Item.{Item}
 use Rattle.mq_cable.specs.Offers.{Offering}
@@ -14,11 +14,11 @@ use Rattle.mq_spec_manager.specs.Agents.{IsUp, set_bound}
 use Rattle.mq_spec_node.specs.Terms.{Did, Message, Part, Plain, ReceiverDoes, ReceiverOut, Seen}
 use Rattle.mq_spec_node.specs.Words.{ReceiverEnd, deed_of, kept_seen, parts_of, receiver_end, turned, with_end}
 use Rattle.mq_spec_node.specs.Node.ChannelEnd.{Receives}
-use Rattle.mq_events.specs.States.{IsKept, IsServed, NodeState, node_in}
-use Rattle.mq_events.specs.Events.{MayAct}
-use Rattle.mq_turns.specs.declared.telling.Turn.{Turn}
-use Rattle.mq_turns.specs.Turns.{Made}
-use Rattle.mq_turns.specs.Wired.{TurnIs}
+use Rattle.mq_turn_parts.specs.from_events.States.{IsKept, IsServed, NodeState, node_in}
+use Rattle.mq_turn_parts.specs.from_events.Events.{MayAct}
+use Rattle.mq_turn_parts.specs.declared.telling.Turn.{Turn}
+use Rattle.mq_turn_parts.specs.Turns.{Made}
+use Rattle.mq_turn_parts.specs.Wired.{TurnIs}
 
 -- a node whose receiver end was lifted out of its place, with that end in it
 abbrev pub whole : ReceiverEnd → NodeState → NodeState
@@ -31,6 +31,11 @@ pub record MayTake (e : ReceiverEnd) (s : NodeState) : Type 0 where
   pub may : MayAct s
   pub up : IsUp s.manager.plain
   pub there : receiver_end e.cable s.own ≡ Some e
+
+-- So of an end that was lifted out of its place, with room for the entry of its turn.
+pub record MayTakeTurn (e : ReceiverEnd) (s : NodeState) : Type 0 where
+  pub room : 0 < s.room
+  pub acts : MayTake e (whole e s)
 
 -- Its turn: the history that it leaves replays.
 pub record ReceivesTurn (cable : ℕ) (reads writes : List Item → Type 0) (none full : Type 0) (o n : Offering) (old : NodeState) (result : Result Turn Want) (new : NodeState) : Type 0 where

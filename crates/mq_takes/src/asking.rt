@@ -6,8 +6,8 @@ ghost use Rattle.mq_takes.specs.Words as words;
 use mq_base::ChName;
 use mq_core::Parts;
 use mq_disk::Disk;
-use mq_manager::Manager;
 use mq_sides::receiver_data;
+use mq_turn_parts::below::Manager;
 
 /// The session is the one that is hardened, and it is open.
 fn is_open<D: Disk>(parts: &Parts<D>, channel: &ChName, session: u64) -> bool

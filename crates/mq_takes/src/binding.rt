@@ -1,9 +1,8 @@
 //! A session that is bound at its manager.
-ghost use Rattle.std.specs.Prelude.{◌≡◌, ◌<◌, ◌≤◌, ◌^◌, ◌++◌, Ok, true};
+ghost use Rattle.std.specs.Prelude.{◌≡◌, ◌++◌, Ok, true};
 ghost use Rattle.mq_calls.specs.declared.agents.Note.TheVariants as notes;
 ghost use Rattle.mq_takes.specs.Words as words;
 ghost use Rattle.mq_calls.specs.declared.choices.Choice.TheVariants as choices;
-ghost use Rattle.mq_frame.specs.declared.frame.Seen.TheVariants as items;
 ghost use Rattle.mq_receiver.specs.declared.turns.ReceiverDoes.TheVariants as does_what;
 
 use crate::asking::may_bind;
@@ -15,11 +14,10 @@ use mq_cable::Wire;
 use mq_calls::{Messages, Note};
 use mq_core::Core;
 use mq_disk::Disk;
-use mq_events::{NodeParts, Told};
-use mq_manager::Manager;
 use mq_own::ReceiverEnd;
 use mq_receiver::{ReceiverDoes, ReceiverOut};
-use mq_turns::{Turn, hardened, has_run};
+use mq_turn_parts::below::{Manager, NodeParts, Told};
+use mq_turn_parts::{Turn, hardened, has_run};
 use mq_wires::Sight;
 
 fn bind_in<D: Disk>(core: &mut Core<D>, channel: &ChName)
@@ -27,7 +25,7 @@ fn bind_in<D: Disk>(core: &mut Core<D>, channel: &ChName)
     ensures meets { words.MeetsOrWants (words.manager_of core.old) (words.set_bound channel.now true core.old.plain) (Ok tt) (words.manager_of core.new) }
     ensures told { words.WritesLog core.old (words.set_bound channel.now true core.old.plain) (Ok tt) core.new }
 {
-    mq_agents::bind(core, channel);
+    mq_turn_parts::below::bind(core, channel);
 }
 
 /// A receiver is bound from now on. It takes no memory.
@@ -54,7 +52,7 @@ fn bind_if<D: Disk>(manager: &mut Manager<D>, channel: &ChName, told: &Told)
 /// # Errors
 ///
 /// No memory; nothing has changed. So it is too where the manager has not what the end knows of it, which never comes.
-#[tactic(auto, using(mq_turns::proofs::RunLaws::stays_up, mq_turns::proofs::AgentLaws::as_was))]
+#[tactic(auto, using(mq_turn_parts::proofs::RunLaws::stays_up, mq_turn_parts::proofs::AgentLaws::as_was))]
 fn harden_bound<D: Disk>(
     manager: &mut Manager<D>,
     channel: &ChName,
@@ -119,12 +117,10 @@ pub(crate) fn binding_turn<D: Disk, W: Wire>(
     end: ReceiverEnd,
     sight: Sight,
 ) -> Result<Turn, NoMemory>
-    requires room { 0 < parts.old.room }
-    requires may { words.MayTake end (words.whole end parts.old) }
+    requires may { words.MayTakeTurn end parts.old }
     requires next { does_what.Bind ≡ words.receiver_next end.machine sight.seen (words.is_receiver_defined end.channel parts.old.manager.plain.definitions) }
-    requires sees { words.Sees (W.front_of wire.old) (Unit {0}) sight.seen sight.stamp }
-    requires low { sight.stamp ≤ 2 ^ 60 }
-    ensures { (o : words.Offering) → words.ReceivesTurn end.cable (λ xs. W.reads wire.old xs wire.new) (λ xs. W.writes wire.old xs wire.new) (sight.seen ≡ items.Nothing) ⊥ o o (words.whole end parts.old) result parts.new }
+    requires saw { words.HasSeen (W.front_of wire.old) sight.seen sight.stamp }
+    ensures { words.TakesOver W.Wire wire.old wire.new end sight.seen parts.old result parts.new }
 {
     let last = end_emptied(
         parts.alloc,

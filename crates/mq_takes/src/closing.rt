@@ -1,9 +1,8 @@
 //! A receiver's session that is closed at its manager.
-ghost use Rattle.std.specs.Prelude.{◌≡◌, ◌<◌, ◌≤◌, ◌^◌, ◌++◌, Ok, false};
+ghost use Rattle.std.specs.Prelude.{◌≡◌, ◌++◌, Ok, false};
 ghost use Rattle.mq_calls.specs.declared.agents.Note.TheVariants as notes;
 ghost use Rattle.mq_takes.specs.Words as words;
 ghost use Rattle.mq_calls.specs.declared.choices.Choice.TheVariants as choices;
-ghost use Rattle.mq_frame.specs.declared.frame.Seen.TheVariants as items;
 ghost use Rattle.mq_receiver.specs.declared.turns.ReceiverDoes.TheVariants as does_what;
 
 use crate::asking::may_close;
@@ -12,32 +11,14 @@ use crate::working::work_done;
 use mq_base::{ChName, NoMemory};
 use mq_cable::Wire;
 use mq_calls::{Messages, Note};
-use mq_core::Core;
 use mq_disk::Disk;
-use mq_events::{NodeParts, Told};
 use mq_frame::Seen;
-use mq_manager::Manager;
 use mq_own::ReceiverEnd;
 use mq_receiver::{ReceiverDoes, ReceiverOut};
-use mq_turns::{Turn, hardened, has_run};
+use mq_turn_parts::below::{Manager, NodeParts, Told};
+use mq_turn_parts::{Turn, hardened, has_run, unbind};
 use mq_wires::Sight;
 use std::alloc::Global;
-
-fn unbind_in<D: Disk>(core: &mut Core<D>, channel: &ChName)
-    requires up { words.IsUp core.old.plain }
-    ensures meets { words.MeetsOrWants (words.manager_of core.old) (words.set_bound channel.now false core.old.plain) (Ok tt) (words.manager_of core.new) }
-    ensures told { words.WritesLog core.old (words.set_bound channel.now false core.old.plain) (Ok tt) core.new }
-{
-    mq_agents::unbind(core, channel);
-}
-
-/// A receiver isn't bound from now on. It takes no memory.
-fn unbind<D: Disk>(manager: &mut Manager<D>, channel: &ChName)
-    requires up { words.IsUp manager.old.plain }
-    ensures { words.MeetsOrWants (words.manager_of manager.old) (words.set_bound channel.now false manager.old.plain) (Ok tt) (words.manager_of manager.new) }
-{
-    unbind_in(&mut manager.core, channel);
-}
 
 /// So where all before was done.
 #[tactic(auto, using(crate::proofs::WorkLaws::bound_done, crate::proofs::WorkLaws::bound_undone, crate::proofs::WorkLaws::up_ran))]
@@ -55,7 +36,7 @@ pub(crate) fn unbind_if<D: Disk>(manager: &mut Manager<D>, channel: &ChName, tol
 /// # Errors
 ///
 /// No memory; nothing has changed. So it is too where the manager has not what the end knows of it, which never comes.
-#[tactic(auto, using(mq_turns::proofs::RunLaws::stays_up, mq_turns::proofs::AgentLaws::as_was))]
+#[tactic(auto, using(mq_turn_parts::proofs::RunLaws::stays_up, mq_turn_parts::proofs::AgentLaws::as_was))]
 fn close_named<D: Disk>(
     manager: &mut Manager<D>,
     channel: &ChName,
@@ -124,12 +105,10 @@ pub(crate) fn closing_turn<D: Disk, W: Wire>(
     end: ReceiverEnd,
     sight: Sight,
 ) -> Result<Turn, NoMemory>
-    requires room { 0 < parts.old.room }
-    requires may { words.MayTake end (words.whole end parts.old) }
+    requires may { words.MayTakeTurn end parts.old }
     requires next { does_what.Close ≡ words.receiver_next end.machine sight.seen (words.is_receiver_defined end.channel parts.old.manager.plain.definitions) }
-    requires sees { words.Sees (W.front_of wire.old) (Unit {0}) sight.seen sight.stamp }
-    requires low { sight.stamp ≤ 2 ^ 60 }
-    ensures { (o : words.Offering) → words.ReceivesTurn end.cable (λ xs. W.reads wire.old xs wire.new) (λ xs. W.writes wire.old xs wire.new) (sight.seen ≡ items.Nothing) ⊥ o o (words.whole end parts.old) result parts.new }
+    requires saw { words.HasSeen (W.front_of wire.old) sight.seen sight.stamp }
+    ensures { words.TakesOver W.Wire wire.old wire.new end sight.seen parts.old result parts.new }
 {
     match close_in(parts, &end) {
         Err(NoMemory) => {

@@ -2,6 +2,7 @@
 #![tactic(auto)]
 
 mod asking;
+pub mod below;
 mod binding;
 mod closing;
 mod lifting;

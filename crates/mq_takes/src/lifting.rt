@@ -4,8 +4,8 @@ ghost use Rattle.mq_takes.specs.Words as words;
 
 use mq_cabled::{lift_receiver, set_end};
 use mq_disk::Disk;
-use mq_events::NodeParts;
 use mq_own::{ChannelEnd, EndKind, ReceiverEnd};
+use mq_turn_parts::below::NodeParts;
 
 /// The receiver end of a cable, lifted out of its place. It takes no memory.
 pub(crate) fn lift<D: Disk>(parts: &mut NodeParts<D>, cable: u16) -> Option<ReceiverEnd>

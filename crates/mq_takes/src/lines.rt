@@ -1,7 +1,6 @@
 //! The lines of a receiver's turn table that take an item.
-ghost use Rattle.std.specs.Prelude.{◌≡◌, ◌<◌, ◌≤◌, ◌^◌};
+ghost use Rattle.std.specs.Prelude.{◌≡◌};
 ghost use Rattle.mq_takes.specs.Words as words;
-ghost use Rattle.mq_frame.specs.declared.frame.Seen.TheVariants as items;
 
 use crate::binding::binding_turn;
 use crate::closing::closing_turn;
@@ -10,13 +9,12 @@ use mq_base::{ChName, NoMemory};
 use mq_cable::Wire;
 use mq_core::Parts;
 use mq_disk::Disk;
-use mq_events::NodeParts;
 use mq_frame::Seen;
-use mq_manager::Manager;
 use mq_objects::ChannelKind;
 use mq_own::ReceiverEnd;
 use mq_receiver::ReceiverDoes;
-use mq_turns::Turn;
+use mq_turn_parts::Turn;
+use mq_turn_parts::below::{Manager, NodeParts};
 use mq_wires::Sight;
 
 fn is_defined<D: Disk>(parts: &Parts<D>, channel: &ChName) -> bool
@@ -64,13 +62,11 @@ pub(crate) fn item_turn<D: Disk, W: Wire>(
     does: ReceiverDoes,
     sight: Sight,
 ) -> Result<Turn, NoMemory>
-    requires room { 0 < parts.old.room }
-    requires may { words.MayTake end (words.whole end parts.old) }
+    requires may { words.MayTakeTurn end parts.old }
     requires takes { words.IsItemLine does }
     requires next { does ≡ words.receiver_next end.machine sight.seen (words.is_receiver_defined end.channel parts.old.manager.plain.definitions) }
-    requires sees { words.Sees (W.front_of wire.old) (Unit {0}) sight.seen sight.stamp }
-    requires low { sight.stamp ≤ 2 ^ 60 }
-    ensures { (o : words.Offering) → words.ReceivesTurn end.cable (λ xs. W.reads wire.old xs wire.new) (λ xs. W.writes wire.old xs wire.new) (sight.seen ≡ items.Nothing) ⊥ o o (words.whole end parts.old) result parts.new }
+    requires saw { words.HasSeen (W.front_of wire.old) sight.seen sight.stamp }
+    ensures { words.TakesOver W.Wire wire.old wire.new end sight.seen parts.old result parts.new }
 {
     match does {
         ReceiverDoes::Bind => binding_turn(parts, wire, end, sight),

@@ -5,14 +5,13 @@ ghost use Rattle.mq_takes.specs.Words as words;
 use crate::lifting::{cable_of, put_back};
 use mq_base::NoMemory;
 use mq_cable::{Offers, Wire};
-use mq_calls::Messages;
 use mq_disk::Disk;
-use mq_events::NodeParts;
 use mq_frame::Seen;
-use mq_history::{Actor, Call};
-use mq_own::{ChannelEnd, EndKind, ReceiverEnd};
+use mq_history::Actor;
+use mq_own::{EndKind, ReceiverEnd};
 use mq_receiver::{Owed, ReceiverDoes, ReceiverOut};
-use mq_turns::{Passed, Turn, close_turn, nothing_done};
+use mq_turn_parts::below::NodeParts;
+use mq_turn_parts::{Passed, Turn, end_turn, nothing_done};
 use mq_wires::offer;
 
 /// The frame that was owed is offered.
@@ -36,8 +35,7 @@ pub(crate) fn owed_turn<D: Disk, W: Wire>(
     end: ReceiverEnd,
     owed: Owed,
 ) -> Result<Turn, NoMemory>
-    requires room { 0 < parts.old.room }
-    requires may { words.MayTake end (words.whole end parts.old) }
+    requires may { words.MayTakeTurn end parts.old }
     requires owes { end.machine.owes ≡ Some owed }
     requires count { offers.old.number < 2 ^ 48 }
     ensures { words.ReceivesTurn end.cable (λ xs. W.reads wire.old xs wire.new) (λ xs. W.writes wire.old xs wire.new) (Unit {0}) (W.was_full wire.old wire.new) offers.old offers.new (words.whole end parts.old) result parts.new }
@@ -63,17 +61,8 @@ pub(crate) fn owed_turn<D: Disk, W: Wire>(
                 extras,
                 popped: Seen::Nothing,
             };
-            let received = Messages::new(parts.alloc);
             let kind = EndKind::Receives(last);
-            close_turn(
-                parts,
-                Actor::Receiver(cable),
-                Call::Turn,
-                told,
-                ChannelEnd { kind },
-                passed,
-                received,
-            );
+            end_turn(parts, Actor::Receiver(cable), told, kind, passed);
             Ok(Turn::Changed)
         }
     }

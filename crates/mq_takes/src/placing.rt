@@ -1,7 +1,6 @@
 //! A receiver's turn that commits its latest unit.
-ghost use Rattle.std.specs.Prelude.{◌≡◌, ◌<◌, ◌≤◌, ◌^◌, IfOk};
+ghost use Rattle.std.specs.Prelude.{◌≡◌, IfOk};
 ghost use Rattle.mq_takes.specs.Words as words;
-ghost use Rattle.mq_frame.specs.declared.frame.Seen.TheVariants as items;
 ghost use Rattle.mq_receiver.specs.declared.turns.ReceiverDoes.TheVariants as does_what;
 
 use crate::closing::end_emptied;
@@ -13,12 +12,12 @@ use mq_base::NoMemory;
 use mq_cable::Wire;
 use mq_calls::Messages;
 use mq_disk::Disk;
-use mq_events::NodeParts;
 use mq_frame::{FrameKind, Seen};
 use mq_own::ReceiverEnd;
 use mq_receiver::{ReceiverDoes, ReceiverOut};
 use mq_sync::Unit as Luw;
-use mq_turns::Turn;
+use mq_turn_parts::Turn;
+use mq_turn_parts::below::NodeParts;
 use mq_wires::Sight;
 
 /// END's last sequence number; the one that there is where it is none.
@@ -57,14 +56,12 @@ fn commit_turn<D: Disk, W: Wire>(
     received: Messages,
     sight: Sight,
 ) -> Result<Turn, NoMemory>
-    requires room { 0 < parts.old.room }
-    requires may { words.MayTake end (words.whole end parts.old) }
+    requires may { words.MayTakeTurn end parts.old }
     requires few { words.IsLow parts.old }
     requires takes { words.TakesAll end.kept parts.old.manager.plain received }
     requires next { does_what.Place unit ≡ words.receiver_next end.machine sight.seen (words.is_receiver_defined end.channel parts.old.manager.plain.definitions) }
-    requires sees { words.Sees (W.front_of wire.old) (Unit {0}) sight.seen sight.stamp }
-    requires low { sight.stamp ≤ 2 ^ 60 }
-    ensures { (o : words.Offering) → words.ReceivesTurn end.cable (λ xs. W.reads wire.old xs wire.new) (λ xs. W.writes wire.old xs wire.new) (sight.seen ≡ items.Nothing) ⊥ o o (words.whole end parts.old) result parts.new }
+    requires saw { words.HasSeen (W.front_of wire.old) sight.seen sight.stamp }
+    ensures { words.TakesOver W.Wire wire.old wire.new end sight.seen parts.old result parts.new }
 {
     let number = last_number(&end, &sight.seen);
     match commit_in(parts, &end, &unit, number) {
@@ -100,13 +97,11 @@ pub(crate) fn placing_turn<D: Disk, W: Wire>(
     unit: Luw,
     sight: Sight,
 ) -> Result<Turn, NoMemory>
-    requires room { 0 < parts.old.room }
-    requires may { words.MayTake end (words.whole end parts.old) }
+    requires may { words.MayTakeTurn end parts.old }
     requires few { words.IsLow parts.old }
     requires next { does_what.Place unit ≡ words.receiver_next end.machine sight.seen (words.is_receiver_defined end.channel parts.old.manager.plain.definitions) }
-    requires sees { words.Sees (W.front_of wire.old) (Unit {0}) sight.seen sight.stamp }
-    requires low { sight.stamp ≤ 2 ^ 60 }
-    ensures { (o : words.Offering) → words.ReceivesTurn end.cable (λ xs. W.reads wire.old xs wire.new) (λ xs. W.writes wire.old xs wire.new) (sight.seen ≡ items.Nothing) ⊥ o o (words.whole end parts.old) result parts.new }
+    requires saw { words.HasSeen (W.front_of wire.old) sight.seen sight.stamp }
+    ensures { words.TakesOver W.Wire wire.old wire.new end sight.seen parts.old result parts.new }
 {
     match taken_in(parts, &end) {
         Err(NoMemory) => {

@@ -1,22 +1,22 @@
 //! A receiver's turn that takes an item and changes no more than the end.
-ghost use Rattle.std.specs.Prelude.{◌≡◌, ◌==◌, ◌+◌, ◌<◌, ◌≤◌, ◌^◌, [], ◌∷◌, ◌++◌, if◌then◌else◌, max, Ok, Some, IfOk, OnOk, OnErr};
+ghost use Rattle.std.specs.Prelude.{◌≡◌, ◌==◌, ◌+◌, ◌<◌, ◌^◌, [], ◌∷◌, ◌++◌, if◌then◌else◌, max, Ok, Some, IfOk, OnOk, OnErr};
 ghost use Rattle.mq_takes.specs.Words as words;
 ghost use Rattle.mq_frame.specs.declared.frame.Seen.TheVariants as items;
 ghost use Rattle.mq_spec_node.specs.Words.{ReceiverEnd as End};
-ghost use Rattle.mq_turns.specs.declared.telling.Turn.TheVariants as turns;
+ghost use Rattle.mq_turn_parts.specs.declared.telling.Turn.TheVariants as turns;
 
 use crate::lifting::{cable_of, put_back};
 use mq_base::NoMemory;
 use mq_cable::Wire;
 use mq_calls::Messages;
 use mq_disk::Disk;
-use mq_events::NodeParts;
 use mq_frame::{FrameKind, Seen};
-use mq_history::{Actor, Call};
+use mq_history::Actor;
 use mq_message::{Bytes, Dest, Message};
-use mq_own::{ChannelEnd, EndKind, ReceiverEnd};
+use mq_own::{EndKind, ReceiverEnd};
 use mq_receiver::{ReceiverDoes, ReceiverOut};
-use mq_turns::{Passed, Turn, close_turn, nothing_done, pass};
+use mq_turn_parts::below::NodeParts;
+use mq_turn_parts::{Passed, Turn, end_turn, nothing_done, pass};
 use mq_wires::{Sight, next_stamp};
 use std::alloc::Global;
 
@@ -144,8 +144,7 @@ fn step(
 fn leave<D: Disk, W: Wire>(parts: &mut NodeParts<D>, wire: &mut W, last: ReceiverEnd, sight: Sight)
     requires room { 0 < parts.old.room }
     requires stamp { parts.old.stamp < 2 ^ 60 }
-    requires sees { words.Sees (W.front_of wire.old) (Unit {0}) sight.seen sight.stamp }
-    requires low { sight.stamp ≤ 2 ^ 60 }
+    requires saw { words.HasSeen (W.front_of wire.old) sight.seen sight.stamp }
     ensures { (o : words.Offering) (e : End) → words.Leaves e last (max parts.old.stamp sight.stamp + 1) sight.seen (words.whole e parts.old) → words.ReceivesTurn e.cable (λ xs. W.reads wire.old xs wire.new) (λ xs. W.writes wire.old xs wire.new) (sight.seen ≡ items.Nothing) ⊥ o o (words.whole e parts.old) (Ok turns.Changed) parts.new }
 {
     let stamp = next_stamp(parts.stamp, sight.stamp);
@@ -158,17 +157,8 @@ fn leave<D: Disk, W: Wire>(parts: &mut NodeParts<D>, wire: &mut W, last: Receive
         extras: 0,
         popped: sight.seen,
     };
-    let received = Messages::new(parts.alloc);
     let kind = EndKind::Receives(last);
-    close_turn(
-        parts,
-        Actor::Receiver(cable),
-        Call::Turn,
-        told,
-        ChannelEnd { kind },
-        passed,
-        received,
-    );
+    end_turn(parts, Actor::Receiver(cable), told, kind, passed);
 }
 
 /// The turn of a line that changes no more than the end.
@@ -179,13 +169,11 @@ pub(crate) fn quiet_turn<D: Disk, W: Wire>(
     does: ReceiverDoes,
     sight: Sight,
 ) -> Result<Turn, NoMemory>
-    requires room { 0 < parts.old.room }
-    requires may { words.MayTake end (words.whole end parts.old) }
+    requires may { words.MayTakeTurn end parts.old }
     requires quiet { words.IsQuietLine does }
     requires next { does ≡ words.receiver_next end.machine sight.seen (words.is_receiver_defined end.channel parts.old.manager.plain.definitions) }
-    requires sees { words.Sees (W.front_of wire.old) (Unit {0}) sight.seen sight.stamp }
-    requires low { sight.stamp ≤ 2 ^ 60 }
-    ensures { (o : words.Offering) → words.ReceivesTurn end.cable (λ xs. W.reads wire.old xs wire.new) (λ xs. W.writes wire.old xs wire.new) (sight.seen ≡ items.Nothing) ⊥ o o (words.whole end parts.old) result parts.new }
+    requires saw { words.HasSeen (W.front_of wire.old) sight.seen sight.stamp }
+    ensures { words.TakesOver W.Wire wire.old wire.new end sight.seen parts.old result parts.new }
 {
     let mut last = end;
     match step(parts.alloc, &mut last, &does, &sight.seen) {

@@ -10,13 +10,12 @@ use mq_calls::{AgentStop, PlaceFault};
 use mq_codes::Reason;
 use mq_core::Parts;
 use mq_disk::{Disk, Stop};
-use mq_events::{NodeParts, Told};
-use mq_manager::Manager;
 use mq_message::Message;
 use mq_own::ReceiverEnd;
 use mq_sides::receiver_data;
 use mq_sync::Unit as Luw;
-use mq_turns::{ran, stopped};
+use mq_turn_parts::below::{Manager, NodeParts, Told};
+use mq_turn_parts::{ran, stopped};
 
 /// What a unit's commit came to.
 #[derive(Drop)]
@@ -89,7 +88,7 @@ fn received<D: Disk>(
 }
 
 /// So, where it may be; where it may not, which never comes, there is no memory.
-#[tactic(auto, using(mq_turns::proofs::AgentLaws::as_was))]
+#[tactic(auto, using(mq_turn_parts::proofs::AgentLaws::as_was))]
 fn received_if<D: Disk>(
     manager: &mut Manager<D>,
     channel: &ChName,

@@ -6,10 +6,9 @@ use mq_base::NoMemory;
 use mq_calls::Messages;
 use mq_core::Parts;
 use mq_disk::Disk;
-use mq_manager::Manager;
 use mq_message::{Bytes, Dest, Ident, Message};
 use mq_own::ReceiverEnd;
-use mq_receive::{Found, standing};
+use mq_turn_parts::below::{Found, Manager, standing};
 use std::alloc::Global;
 
 /// An ident that is found so is kept out.

@@ -1,7 +1,6 @@
 //! A receiver's turn, as one call.
-ghost use Rattle.std.specs.Prelude.{◌≡◌, ◌<◌, ◌≤◌, ◌^◌, None, [], true};
+ghost use Rattle.std.specs.Prelude.{◌≡◌, ◌<◌, ◌^◌, None, [], true};
 ghost use Rattle.mq_takes.specs.Words as words;
-ghost use Rattle.mq_frame.specs.declared.frame.Seen.TheVariants as items;
 ghost use Rattle.mq_history.specs.declared.calls.Actor.TheVariants as actors;
 
 use crate::lifting::{lift, put_back};
@@ -11,11 +10,11 @@ use crate::placing::placing_turn;
 use mq_base::NoMemory;
 use mq_cable::{Offers, Wire};
 use mq_disk::Disk;
-use mq_events::{Node, NodeParts};
 use mq_frame::Seen;
 use mq_own::ReceiverEnd;
 use mq_receiver::{Owed, ReceiverDoes};
-use mq_turns::Turn;
+use mq_turn_parts::below::{Node, NodeParts};
+use mq_turn_parts::{Turn, is_up};
 use mq_wires::{Sight, see};
 
 fn owed_by(end: &ReceiverEnd) -> Option<Owed>
@@ -38,13 +37,11 @@ fn sighted_turn<D: Disk, W: Wire>(
     end: ReceiverEnd,
     sight: Sight,
 ) -> Result<Turn, NoMemory>
-    requires room { 0 < parts.old.room }
-    requires may { words.MayTake end (words.whole end parts.old) }
+    requires may { words.MayTakeTurn end parts.old }
     requires few { words.IsLow parts.old }
     requires owes { end.machine.owes ≡ None }
-    requires sees { words.Sees (W.front_of wire.old) (Unit {0}) sight.seen sight.stamp }
-    requires low { sight.stamp ≤ 2 ^ 60 }
-    ensures { (o : words.Offering) → words.ReceivesTurn end.cable (λ xs. W.reads wire.old xs wire.new) (λ xs. W.writes wire.old xs wire.new) (sight.seen ≡ items.Nothing) ⊥ o o (words.whole end parts.old) result parts.new }
+    requires saw { words.HasSeen (W.front_of wire.old) sight.seen sight.stamp }
+    ensures { words.TakesOver W.Wire wire.old wire.new end sight.seen parts.old result parts.new }
 {
     match line_at(parts, &end, &sight.seen) {
         ReceiverDoes::Still => {
@@ -67,12 +64,11 @@ fn seen_turn<D: Disk, W: Wire>(
     wire: &mut W,
     end: ReceiverEnd,
 ) -> Result<Turn, NoMemory>
-    requires room { 0 < parts.old.room }
-    requires may { words.MayTake end (words.whole end parts.old) }
+    requires may { words.MayTakeTurn end parts.old }
     requires few { words.IsLow parts.old }
     requires owes { end.machine.owes ≡ None }
     requires low { W.low wire.old }
-    ensures { (o : words.Offering) → words.TakesOne end.cable (λ xs. W.reads wire.old xs wire.new) (λ xs. W.writes wire.old xs wire.new) ((m : W) × W.was_empty wire.old m × W.reads m [] wire.new) (W.was_full wire.old wire.new) o o (words.whole end parts.old) result parts.new }
+    ensures { (o : words.Offering) → words.TakesOneOver W.Wire wire.old wire.new end.cable o o (words.whole end parts.old) result parts.new }
 {
     match see(parts.alloc, wire) {
         Err(NoMemory) => {
@@ -90,12 +86,11 @@ fn lifted_turn<D: Disk, W: Wire>(
     wire: &mut W,
     end: ReceiverEnd,
 ) -> Result<Turn, NoMemory>
-    requires room { 0 < parts.old.room }
-    requires may { words.MayTake end (words.whole end parts.old) }
+    requires may { words.MayTakeTurn end parts.old }
     requires few { words.IsLow parts.old }
     requires low { W.low wire.old }
     requires count { offers.old.number < 2 ^ 48 }
-    ensures { words.TakesOne end.cable (λ xs. W.reads wire.old xs wire.new) (λ xs. W.writes wire.old xs wire.new) ((m : W) × W.was_empty wire.old m × W.reads m [] wire.new) (W.was_full wire.old wire.new) offers.old offers.new (words.whole end parts.old) result parts.new }
+    ensures { words.TakesOneOver W.Wire wire.old wire.new end.cable offers.old offers.new (words.whole end parts.old) result parts.new }
 {
     match owed_by(&end) {
         Some(owed) => owed_turn(parts, offers, wire, end, owed),
@@ -118,19 +113,12 @@ fn turn_in_room<D: Disk, W: Wire>(
     requires few { words.IsLow parts.old }
     requires low { W.low wire.old }
     requires count { offers.old.number < 2 ^ 48 }
-    ensures { words.TakesOne cable (λ xs. W.reads wire.old xs wire.new) (λ xs. W.writes wire.old xs wire.new) ((m : W) × W.was_empty wire.old m × W.reads m [] wire.new) (W.was_full wire.old wire.new) offers.old offers.new parts.old result parts.new }
+    ensures { words.TakesOneOver W.Wire wire.old wire.new cable offers.old offers.new parts.old result parts.new }
 {
     match lift(parts, cable) {
         None => Ok(Turn::Still),
         Some(end) => lifted_turn(parts, offers, wire, end),
     }
-}
-
-/// Whether its manager is up.
-fn is_up<D: Disk>(parts: &NodeParts<D>) -> bool
-    ensures { result ≡ words.is_up parts.now.manager.plain.running }
-{
-    parts.manager.is_up()
 }
 
 /// Whether its manager had few rows when it began.
@@ -152,7 +140,7 @@ fn turn_at<D: Disk, W: Wire>(
     requires may { words.MayAct parts.old }
     requires low { W.low wire.old }
     requires count { offers.old.number < 2 ^ 48 }
-    ensures { words.TakesOne cable (λ xs. W.reads wire.old xs wire.new) (λ xs. W.writes wire.old xs wire.new) ((m : W) × W.was_empty wire.old m × W.reads m [] wire.new) (W.was_full wire.old wire.new) offers.old offers.new parts.old result parts.new }
+    ensures { words.TakesOneOver W.Wire wire.old wire.new cable offers.old offers.new parts.old result parts.new }
 {
     if !is_up(parts) {
         return Ok(Turn::Still);

@@ -43,11 +43,16 @@ fn each_kind_of_body_is_read_as_that_kind(rt: HostRuntime) -> Result<(), Fail> {
     Ok(())
 }
 
-/// The first length at which a body that is cut there is a record.
-fn first_read(alloc: Global, body: &[u8]) -> Option<usize> {
+/// Whether a body is no record, and recovery refuses it at its gate.
+fn is_no_record(alloc: Global, body: &[u8]) -> bool {
+    is_none(alloc, body) && is_refused(alloc, body)
+}
+
+/// The first length at which a body that is cut there is taken.
+fn first_taken(alloc: Global, body: &[u8]) -> Option<usize> {
     for length in 0..body.len() {
         let (front, _) = body.split_at(length);
-        if !is_none(alloc, front) {
+        if !is_no_record(alloc, front) {
             return Some(length);
         }
     }
@@ -55,10 +60,12 @@ fn first_read(alloc: Global, body: &[u8]) -> Option<usize> {
 }
 
 #[test]
-fn a_body_cut_at_any_length_is_no_record(rt: HostRuntime) -> Result<(), Fail> {
+fn a_body_cut_at_any_length_is_no_record_and_refused_at_its_gate(
+    rt: HostRuntime,
+) -> Result<(), Fail> {
     for (kind, sample) in each_kind(rt.alloc())?.iter().enumerate() {
-        let read = first_read(rt.alloc(), sample.bytes.as_slice());
-        assert!(rt; read.is_none(), "kind {kind} from 0, at {read:?} bytes");
+        let taken = first_taken(rt.alloc(), sample.bytes.as_slice());
+        assert!(rt; taken.is_none(), "kind {kind} from 0, at {taken:?} bytes");
     }
     Ok(())
 }
@@ -84,10 +91,16 @@ fn a_byte_behind_a_record_makes_it_none(rt: HostRuntime) -> Result<(), Fail> {
     Ok(())
 }
 
-/// Whether a body with another byte at that place is no record just where no other may stand.
+/// Whether a body with another byte at that place is no record, and refused at its gate, just where no other may stand.
 fn is_spoiled(alloc: Global, sample: &Sample, place: usize, strict: bool) -> bool {
     match sample.spoiled(place) {
-        Some(spoiled) => is_none(alloc, spoiled.as_slice()) == strict,
+        Some(spoiled) => {
+            if strict {
+                is_no_record(alloc, spoiled.as_slice())
+            } else {
+                !is_none(alloc, spoiled.as_slice())
+            }
+        }
         None => false,
     }
 }
@@ -125,9 +138,7 @@ fn put_at(body: &mut [u8], place: usize, bytes: &[u8]) -> bool {
 fn is_refused_with(alloc: Global, kind: usize, place: usize, bytes: &[u8]) -> bool {
     match bytes_of_kind(alloc, kind) {
         Some(mut body) => {
-            put_at(&mut body, place, bytes)
-                && is_none(alloc, body.as_slice())
-                && is_refused(alloc, body.as_slice())
+            put_at(&mut body, place, bytes) && is_no_record(alloc, body.as_slice())
         }
         None => false,
     }

@@ -1,7 +1,6 @@
 //! What a log tells, and where a body is refused.
 
 use crate::logs::{Body, Log, log_of};
-use crate::samples::{Sample, each_kind};
 use mq_base::QName;
 use mq_calls::Image;
 use mq_log::Bodies;
@@ -68,53 +67,6 @@ pub fn is_refused(alloc: Global, body: &[u8]) -> bool {
     log.put_bytes(body);
     log.put(alloc, &Body::Session(1));
     is_at_fault(alloc, &log, Start::First, Some(place))
-}
-
-/// The first length at which a body that is cut there isn't refused at its gate.
-fn first_taken(alloc: Global, body: &[u8]) -> Option<usize> {
-    for length in 0..body.len() {
-        let (front, _) = body.split_at(length);
-        if !is_refused(alloc, front) {
-            return Some(length);
-        }
-    }
-    None
-}
-
-#[test]
-fn a_record_cut_at_any_length_is_refused_at_its_gate(rt: HostRuntime) -> Result<(), Fail> {
-    for (kind, sample) in each_kind(rt.alloc())?.iter().enumerate() {
-        let taken = first_taken(rt.alloc(), sample.bytes.as_slice());
-        assert!(rt; taken.is_none(), "kind {kind} from 0, at {taken:?} bytes");
-    }
-    Ok(())
-}
-
-/// Whether a body with another byte at that place is refused at its gate, where no other may stand there.
-fn is_spoiled(alloc: Global, sample: &Sample, place: usize, strict: bool) -> bool {
-    match sample.spoiled(place) {
-        Some(spoiled) => is_refused(alloc, spoiled.as_slice()) || !strict,
-        None => false,
-    }
-}
-
-/// The first place at which no other byte may stand, and a spoiled one isn't refused at its gate.
-fn first_spoiled(alloc: Global, sample: &Sample) -> Option<usize> {
-    for (place, strict) in sample.strict.iter().enumerate() {
-        if !is_spoiled(alloc, sample, place, *strict) {
-            return Some(place);
-        }
-    }
-    None
-}
-
-#[test]
-fn a_record_with_a_spoiled_byte_is_refused_at_its_gate(rt: HostRuntime) -> Result<(), Fail> {
-    for (kind, sample) in each_kind(rt.alloc())?.iter().enumerate() {
-        let taken = first_spoiled(rt.alloc(), sample);
-        assert!(rt; taken.is_none(), "kind {kind} from 0, at {taken:?}");
-    }
-    Ok(())
 }
 
 /// Bodies of a log, and which body, from 0, is at fault; none where all apply.

@@ -1,6 +1,7 @@
 //! Bytes as lines, pieces and numbers: what the readers of commands, rules and scenarios share.
 #![tactic(auto)]
 
+pub mod below;
 mod lines;
 mod numbers;
 mod piece;

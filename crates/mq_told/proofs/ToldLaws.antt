@@ -10,9 +10,9 @@ use Rattle.mq_log.specs.Bodies.{frame, frames, AllFit}
 use Rattle.mq_log.proofs.Logs.{frame_is_one}
 use Rattle.mq_calls.specs.State.{Given}
 use Rattle.mq_calls.specs.declared.image.Image.{Image}
-use Rattle.mq_spec_log.specs.Applies.{Start}
-use Rattle.mq_spec_log.specs.Applies.Start.{Later}
-use Rattle.mq_spec_log.specs.Bodies.{record_of, behind, or_place, image_from, empty_image, begins, image}
+use Rattle.mq_recover.specs.from_spec_log.Applies.{Start}
+use Rattle.mq_recover.specs.from_spec_log.Applies.Start.{Later}
+use Rattle.mq_recover.specs.from_spec_log.Bodies.{record_of, behind, or_place, image_from, empty_image, begins, image}
 use Rattle.mq_recover.specs.declared.recovering.Recovering.{Recovering}
 use Rattle.mq_recover.specs.declared.recovery.RecoverFault.{RecoverFault}
 use Rattle.mq_recover.specs.Recovering.{seen}

@@ -3,8 +3,8 @@ use Rattle.std.specs.Prelude.{◌≡◌, ◌++◌, ℕ, List, length, drop, true
 use Rattle.mq_log.specs.Bodies.{frames, AllFit}
 use Rattle.mq_calls.specs.State.{Given}
 use Rattle.mq_calls.specs.declared.image.Image.{Image}
-use Rattle.mq_spec_log.specs.Applies.Start.{Later}
-use Rattle.mq_spec_log.specs.Bodies.{image_from, empty_image, begins, image}
+use Rattle.mq_recover.specs.from_spec_log.Applies.Start.{Later}
+use Rattle.mq_recover.specs.from_spec_log.Bodies.{image_from, empty_image, begins, image}
 use Rattle.mq_recover.specs.declared.recovery.RecoverFault.{RecoverFault}
 use Rattle.mq_recover.specs.Recovering.{seen}
 use Rattle.mq_recover.specs.Found.{Told}

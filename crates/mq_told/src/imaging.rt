@@ -2,8 +2,8 @@
 ghost use Rattle.std.specs.Prelude.{◌≡◌, ℕ, List, Ok, Err, MatchResult};
 ghost use Rattle.mq_log.specs.Bodies.{frames, AllFit};
 ghost use Rattle.mq_calls.specs.State.{Given};
-ghost use Rattle.mq_spec_log.specs.Applies.Start.{Later};
-ghost use Rattle.mq_spec_log.specs.Bodies.{image};
+ghost use Rattle.mq_recover.specs.from_spec_log.Applies.Start.{Later};
+ghost use Rattle.mq_recover.specs.from_spec_log.Bodies.{image};
 ghost use Rattle.mq_recover.specs.declared.recovery.RecoverFault.TheVariants.{NoMemory};
 ghost use Rattle.mq_recover.specs.Found.{Recovers, given_as};
 ghost use Rattle.mq_recover.specs.Recovering.{seen};

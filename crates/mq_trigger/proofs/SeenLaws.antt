@@ -1,10 +1,9 @@
 -- The condition reads of a manager what is seen of it.
 use Rattle.std.proofs.Common.{◌≡◌, List, refl, sym, ◌∙◌}
 use Rattle.std.specs.Prelude.{Option, Some, None, not, ◌&&◌, is_some}
-use Rattle.mq_objects.specs.declared.object.TriggerType.TheVariants as triggers
-use Rattle.mq_calls.specs.Words.{Definitions, LocalQueue, TriggerType, Plain, stored, waiting, has_priority, by_type, is_served, is_triggered, local_of, process_of}
-use Rattle.mq_calls.specs.declared.state.Connection.{Connection}
-use Rattle.mq_calls.specs.declared.state.Seizure.{Seizure}
+use Rattle.mq_handles.specs.from_objects.TriggerTypeVariants as triggers
+use Rattle.mq_handles.specs.from_calls.Words.{Definitions, LocalQueue, TriggerType, Plain, stored, waiting, has_priority, by_type, is_served, is_triggered, local_of, process_of}
+use Rattle.mq_handles.specs.from_calls.{Connection, Seizure}
 use Rattle.mq_trigger.specs.declared.condition.Tried.{Tried}
 use Rattle.mq_trigger.specs.Seen.{IsSeen, due_by_type, served_in, is_due}
 

@@ -2,10 +2,9 @@
 use Rattle.std.specs.Prelude.{◌≡◌, ◌==◌, nat_le, Bool, true, false, not, ◌&&◌, ◌||◌, ℕ, List, Option, Some, None, is_some}
 use Rattle.std.specs.List.{list_any}
 use Rattle.std.specs.Str.{bytes_eq}
-use Rattle.mq_objects.specs.declared.object.TriggerType.TheVariants as triggers
-use Rattle.mq_calls.specs.Words.{Definitions, LocalQueue, TriggerType, Plain, stored, waiting, has_priority, is_long_ago, any_handle, local_of, process_of, is_transmission}
-use Rattle.mq_calls.specs.declared.state.Connection.{Connection}
-use Rattle.mq_calls.specs.declared.state.Seizure.{Seizure}
+use Rattle.mq_handles.specs.from_objects.TriggerTypeVariants as triggers
+use Rattle.mq_handles.specs.from_calls.Words.{Definitions, LocalQueue, TriggerType, Plain, stored, waiting, has_priority, is_long_ago, any_handle, local_of, process_of, is_transmission}
+use Rattle.mq_handles.specs.from_calls.{Connection, Seizure}
 use Rattle.mq_handles.specs.Users.{reads_from}
 use Rattle.mq_trigger.specs.declared.condition.Tried.{Tried}
 

@@ -1,14 +1,13 @@
 //! The condition of a trigger, tried once for a message that a commit has placed.
 ghost use Rattle.std.specs.Prelude.{◌≡◌};
-ghost use Rattle.mq_queue.specs.Rows.{has_priority};
-ghost use Rattle.mq_objects.specs.Names.{local_of};
-ghost use Rattle.mq_calls.specs.Words.{Plain, is_triggered, is_long_ago, is_depth};
+ghost use Rattle.mq_handles.specs.from_queue.Rows.{has_priority};
+ghost use Rattle.mq_handles.specs.from_objects.Names.{local_of};
+ghost use Rattle.mq_handles.specs.from_calls.Words.{Plain, is_triggered, is_long_ago, is_depth};
 ghost use Rattle.mq_trigger.specs.Seen.{IsSeen, is_sent_from, is_open, due_by_type, served_in, is_due};
 
 use mq_base::QName;
-use mq_calls::Seizure;
 use mq_handles::Live;
-use mq_objects::{Defs, LocalQueue, TriggerType, Usage};
+use mq_handles::below::{Defs, LocalQueue, Seizure, TriggerType, Usage};
 
 /// What is tried of a local queue: the message's priority, and how the queue stands behind it.
 #[derive(Clone, Copy)]

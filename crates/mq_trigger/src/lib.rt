@@ -1,6 +1,7 @@
 //! When a trigger is due (IBM MQ administration, "Triggering channels and applications").
 #![tactic(auto)]
 
+pub mod below;
 mod condition;
 mod message;
 

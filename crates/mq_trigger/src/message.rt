@@ -1,15 +1,14 @@
 //! The message that a trigger sends to its initiation queue.
 ghost use Rattle.std.specs.Prelude.{◌≡◌, ◌≤◌, pos, codes, IfOk, IfSome};
 ghost use Rattle.mq_base.specs.Name.{padded};
-ghost use Rattle.mq_clock.specs.Stamps.{put_date, put_time};
-ghost use Rattle.mq_spec_manager.specs.Heads.{own_md, tm_of};
-ghost use Rattle.mq_spec_manager.specs.Triggers.{trigger_message};
+ghost use Rattle.mq_clock.specs.from_heads.Stamps.{put_date, put_time};
+ghost use Rattle.mq_handles.specs.from_spec_manager.Heads.{own_md, tm_of};
+ghost use Rattle.mq_handles.specs.from_spec_manager.Triggers.{trigger_message};
 
 use mq_base::NoMemory;
+use mq_clock::below::{Bytes, Ident, Md, Message, Tm, made_msg_id, tm_to_bytes};
 use mq_clock::put_stamp;
-use mq_heads::{Tm, tm_to_bytes};
-use mq_message::{Bytes, Ident, Md, Message, made_msg_id};
-use mq_objects::{LocalQueue, Process};
+use mq_handles::below::{LocalQueue, Process};
 use std::alloc::Global;
 
 /// A text as a field with blanks behind it; none where it is longer than the field.

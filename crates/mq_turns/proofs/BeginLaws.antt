@@ -21,23 +21,23 @@ use Rattle.mq_spec_node.specs.Terms.{Did, Frame, Message, Plain, SenderDoes}
 use Rattle.mq_spec_node.specs.Words.{Deed, Own, SenderEnd, carried, deed_of, item_of, parts_of, turned, with_end}
 use Rattle.mq_spec_node.specs.Node.ChannelEnd.{Sends}
 use Rattle.mq_wires.specs.Wires.{HasPushed, IsFull, OfferTold, OffersNone}
-use Rattle.mq_events.specs.States.{NodeState, node_in}
-use Rattle.mq_turns.specs.declared.telling.Passed.{Passed}
-use Rattle.mq_turns.specs.declared.telling.Turn.TheVariants as turns
-use Rattle.mq_turns.specs.Turns.{IsAsWas, IsBehind, Made, own_by, plain_by, turn_entry}
-use Rattle.mq_turns.specs.Told.{Closes, IsTold}
-use Rattle.mq_turns.specs.Wired.{Refuses}
-use Rattle.mq_turns.specs.Acting.{Acts, SendsTurn}
+use Rattle.mq_turn_parts.specs.from_events.States.{NodeState, node_in}
+use Rattle.mq_turn_parts.specs.declared.telling.Passed.{Passed}
+use Rattle.mq_turn_parts.specs.declared.telling.Turn.TheVariants as turns
+use Rattle.mq_turn_parts.specs.Turns.{IsAsWas, IsBehind, Made, own_by, plain_by, turn_entry}
+use Rattle.mq_turn_parts.specs.Told.{Closes, IsTold}
+use Rattle.mq_turn_parts.specs.Wired.{Refuses}
+use Rattle.mq_turn_parts.specs.Acting.{Acts, SendsTurn}
 use Rattle.mq_turns.specs.declared.beginning.First.{First}
 use Rattle.mq_turns.specs.declared.beginning.First.TheVariants as firsts
 use Rattle.mq_turns.specs.Begins.{FirstTold, HasHeld, begun_parts}
 use Rattle.mq_turns.specs.Sends.{behind_end}
 use Rattle.mq_turns.proofs.HoldLaws.{given_up, own_batch}
 use Rattle.mq_turns.proofs.PushLaws.{some_pushed}
-use Rattle.mq_turns.proofs.RunLaws.{stays_up}
+use Rattle.mq_turn_parts.proofs.RunLaws.{stays_up}
 use Rattle.mq_turns.proofs.SendLaws.{message_stamp, turn_is}
 use Rattle.mq_turns.proofs.SettleLaws.{want_kept, want_stays}
-use Rattle.mq_turns.proofs.TurnLaws.{before_of, sender_turns}
+use Rattle.mq_turn_parts.proofs.TurnLaws.{before_of, sender_turns}
 
 module _ (s h : NodeState) (e : SenderEnd) (n count : ℕ) (choice : Choice) (delta : List Did) (acts : Acts e s) (g : h ≡ record s { manager = h.manager }) (ran : choice ≡ Runs) (made : Made (begun_parts e n count s.manager.plain) choice delta s.manager h.manager) where
   abbrev d : SenderDoes

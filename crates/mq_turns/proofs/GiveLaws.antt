@@ -13,10 +13,10 @@ use Rattle.mq_calls.specs.Meeting.{MeetsInRoom}
 use Rattle.mq_spec_manager.specs.Agents.{HasBatch, IsUp, release_batch, release_of}
 use Rattle.mq_spec_node.specs.Words.{parts_of}
 use Rattle.mq_core.specs.Values.{CoreValue, WritesLog, manager_of}
-use Rattle.mq_turns.specs.Turns.{IsBehind}
-use Rattle.mq_restart.specs.declared.reading.LogRead.{LogRead}
-use Rattle.mq_manager.specs.Kept.{IsKept}
-use Rattle.mq_manager.proofs.CallLaws.{kept_release}
+use Rattle.mq_turn_parts.specs.Turns.{IsBehind}
+use Rattle.mq_turn_parts.specs.from_restart.{LogRead}
+use Rattle.mq_turn_parts.specs.from_manager.Kept.{IsKept}
+use Rattle.mq_turn_parts.proofs.from_manager.CallLaws.{kept_release}
 
 abbrev pub giving : List ℕ → List Change
 giving channel = Release (HeldBy (holders.Batch channel)) false ∷ DropBatch channel ∷ []

@@ -22,8 +22,8 @@ use Rattle.mq_law_manager.specs.Facts.{IsOf, IsSound}
 use Rattle.mq_law_manager.specs.View.{view}
 use Rattle.mq_law_manager.proofs.Batches.{by_batch}
 use Rattle.mq_law_manager.proofs.Named.{batch_set, name_self}
-use Rattle.mq_law_log.proofs.Bridge.{all_of, each_queue}
-use Rattle.mq_manager.specs.Facts.{IsWell}
+use Rattle.mq_turn_parts.proofs.from_law_log.Bridge.{all_of, each_queue}
+use Rattle.mq_turn_parts.specs.from_manager.Facts.{IsWell}
 
 -- A channel that has its queue, no batch and nothing in doubt holds no row: so it may hold a batch.
 not_true : (b : Bool) → (b ≡ true → ⊥) → b ≡ false

@@ -1,10 +1,3 @@
-pub mod PartLaws
-pub mod AgentLaws
-pub mod RunLaws
-pub mod TurnLaws
-pub mod DueLaws
-pub mod WaitLaws
-pub mod TimeLaws
 pub mod TableLaws
 pub mod SendLaws
 pub mod SettleLaws
@@ -12,11 +5,7 @@ pub mod PushLaws
 pub mod HoldLaws
 pub mod GiveLaws
 pub mod BeginLaws
-pub mod WireLaws
 pub mod LineLaws
 pub mod PrepareLaws
 pub mod PreparedLaws
-pub mod QuietLaws
-pub mod CountLaws
-pub mod TimedLaws
 pub mod NodeLaws

@@ -14,15 +14,15 @@ use Rattle.mq_sender.specs.declared.turns.SenderDoes.TheVariants as does
 use Rattle.mq_sender.specs.Table.{sender_next}
 use Rattle.mq_spec_manager.specs.Agents.{stock}
 use Rattle.mq_spec_node.specs.Words.{SenderEnd}
-use Rattle.mq_events.specs.States.{NodeState, node_in}
-use Rattle.mq_turns.specs.declared.telling.Turn.{Turn}
-use Rattle.mq_turns.specs.declared.telling.Turn.TheVariants as turns
-use Rattle.mq_turns.specs.Wired.{Idles}
-use Rattle.mq_turns.specs.Acting.{Acts, SendsTurn}
+use Rattle.mq_turn_parts.specs.from_events.States.{NodeState, node_in}
+use Rattle.mq_turn_parts.specs.declared.telling.Turn.{Turn}
+use Rattle.mq_turn_parts.specs.declared.telling.Turn.TheVariants as turns
+use Rattle.mq_turn_parts.specs.Wired.{Idles}
+use Rattle.mq_turn_parts.specs.Acting.{Acts, SendsTurn}
 use Rattle.mq_turns.specs.Sends.{IsOwn}
 use Rattle.mq_turns.proofs.TableLaws.{own_is}
 use Rattle.mq_turns.proofs.SendLaws.{turn_is}
-use Rattle.mq_turns.proofs.WireLaws.{sends_widened}
+use Rattle.mq_turn_parts.proofs.WireLaws.{sends_widened}
 
 -- where nothing waits, the line is one of the end's own
 pub own_next : (m : Sender) (a : Stock) (d : SenderDoes) → d ≡ sender_next m items.Nothing a → IsOwn d

@@ -1,5 +1,5 @@
 -- A sender's turn at its node: which end acts, room for its entry, and the node's type.
-use Rattle.std.proofs.Common.{◌≡◌, ℕ, ◌+◌, ◌≤◌, refl, sym, ap, subst, List, [], false, true, length, arith}
+use Rattle.std.proofs.Common.{◌≡◌, ℕ, ◌+◌, ◌<◌, ◌≤◌, refl, sym, ap, subst, List, [], false, true, length, arith}
 use Rattle.std.specs.Prelude.{Option, Some, None, Result, Ok, Err}
 use Rattle.mq_base.specs.declared.want.NoMemory.{NoMemory as Want}
 use Rattle.mq_cable.specs.declared.item.Item.{Item}
@@ -10,18 +10,18 @@ use Rattle.mq_history.specs.declared.calls.Actor.TheVariants as actors
 use Rattle.mq_history.specs.declared.calls.Call.TheVariants as calls
 use Rattle.mq_calls.specs.Reads.{is_up}
 use Rattle.mq_spec_node.specs.Words.{Deed, SenderEnd, sender_end, sender_turn}
-use Rattle.mq_events.specs.States.{IsKept, IsServed, NodeState, Spare, node_in}
-use Rattle.mq_events.specs.Counts.{IsNode}
-use Rattle.mq_events.specs.Events.{MayAct}
-use Rattle.mq_turns.specs.declared.telling.Turn.{Turn}
-use Rattle.mq_turns.specs.declared.telling.Turn.TheVariants as turns
-use Rattle.mq_turns.specs.Wired.{Idles, TurnIs}
-use Rattle.mq_turns.specs.Acting.{Acts, SendsTurn}
+use Rattle.mq_turn_parts.specs.from_events.States.{IsKept, IsServed, NodeState, Spare, node_in}
+use Rattle.mq_turn_parts.specs.from_events.Counts.{IsNode}
+use Rattle.mq_turn_parts.specs.from_events.Events.{MayAct}
+use Rattle.mq_turn_parts.specs.declared.telling.Turn.{Turn}
+use Rattle.mq_turn_parts.specs.declared.telling.Turn.TheVariants as turns
+use Rattle.mq_turn_parts.specs.Wired.{Idles, TurnIs}
+use Rattle.mq_turn_parts.specs.Acting.{Acts, MayTurn, SendsTurn}
 use Rattle.mq_turns.specs.Turning.{IsHere, NeverActs, SendsAt}
-use Rattle.mq_turns.specs.Unseen.{Empty, EndTurn, IsUnseen, Rests, turn_deed}
-use Rattle.mq_turns.proofs.CountLaws.{stays_counted, turned_counted}
-use Rattle.mq_turns.proofs.DueLaws.{cable_found, down_is, none_is}
-use Rattle.mq_turns.proofs.WireLaws.{sends_widened}
+use Rattle.mq_turn_parts.specs.Unseen.{Empty, EndTurn, IsUnseen, Rests, turn_deed}
+use Rattle.mq_turn_parts.proofs.CountLaws.{stays_counted, turned_counted}
+use Rattle.mq_turn_parts.proofs.DueLaws.{cable_found, down_is, none_is}
+use Rattle.mq_turn_parts.proofs.WireLaws.{sends_widened}
 
 -- Which end acts.
 pub never_down : (s : NodeState) (cable : ℕ) → is_up s.manager.plain.running ≡ false → NeverActs cable s
@@ -40,8 +40,11 @@ pub acts_here : (s : NodeState) (cable : ℕ) (e : SenderEnd) → IsKept s → I
 acts_here s cable e kept served may here = record { kept = kept; served = served; may = may; up = here.up; there = here.there }
 
 -- Room was taken before.
-pub room_acts : (s r : NodeState) (e : SenderEnd) → r ≡ record s { room = r.room } → Acts e s → Acts e r
+room_acts : (s r : NodeState) (e : SenderEnd) → r ≡ record s { room = r.room } → Acts e s → Acts e r
 room_acts s r e g a = subst (λ (x : NodeState). Acts e x) (sym g) (record { kept = a.kept; served = a.served; may = a.may; up = a.up; there = a.there })
+
+pub room_may : (s r : NodeState) (e : SenderEnd) → r ≡ record s { room = r.room } → 0 < r.room → Acts e s → MayTurn e r
+room_may s r e g room a = record { room = room; acts = room_acts s r e g a }
 
 module _ (reads writes : List Item → Type 0) (none full : Type 0) (o n : Offering) where
   pub in_room : (who : Actor) (s t : NodeState) (spare : Spare) (room : ℕ) (d : Option Deed) (result : Result Turn Want) → TurnIs who reads writes none full o n d (record s { spare = spare; room = room }) result t → TurnIs who reads writes none full o n d s result t

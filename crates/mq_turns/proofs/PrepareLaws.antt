@@ -2,7 +2,7 @@
 use Rattle.std.proofs.Common.{◌≡◌, ℕ, ◌≤◌, refl, sym, ap, subst, ◌∙◌, List, [], ◌∷◌, Bool, true, false, not, ◌||◌, arith}
 use Rattle.std.proofs.lemmas.List.Elements.{All-cons, All-nil}
 use Rattle.std.proofs.lemmas.List.Kept.{AllPairs-cons}
-use Rattle.mq_spec_log.specs.Applies.{are_distinct}
+use Rattle.mq_turn_parts.specs.from_spec_log.Applies.{are_distinct}
 use Rattle.std.specs.Prelude.{All, AllPairs, Option, Some, None, ◌&&◌, if◌then◌else◌, is_some}
 use Rattle.std.specs.Str.{bytes_eq}
 use Rattle.std.specs.List.{AllByRecursion, list_any}
@@ -19,8 +19,8 @@ use Rattle.mq_spec_manager.specs.Agents.{CanPrepare, IsUp, NoneInDoubt, is_row_i
 use Rattle.mq_law_manager.specs.Facts.{IsBatched, IsSound, Mem}
 use Rattle.mq_law_manager.specs.View.{view}
 use Rattle.mq_law_manager.proofs.Lists.{any_mem, one_row}
-use Rattle.mq_law_log.proofs.Bridge.{all_of, each_queue}
-use Rattle.mq_manager.specs.Facts.{IsWell}
+use Rattle.mq_turn_parts.proofs.from_law_log.Bridge.{all_of, each_queue}
+use Rattle.mq_turn_parts.specs.from_manager.Facts.{IsWell}
 use Rattle.mq_turns.specs.Prepares.{MayPrepare}
 
 has_if : (c : Bool) (channel : List ℕ) (x b : Batch) (xs : List Batch) → bytes_eq channel x.channel ≡ c → (batch_of channel xs ≡ Some b → has_batch channel xs ≡ true) → (if c then Some x else batch_of channel xs) ≡ Some b → (c || has_batch channel xs) ≡ true

@@ -29,21 +29,21 @@ use Rattle.mq_spec_node.specs.Terms.{Did, Message, Part, Plain, PrepareFault, St
 use Rattle.mq_spec_node.specs.Words.{Deed, Node, SenderEnd, parts_of, prepare_deed, turned, with_end}
 use Rattle.mq_spec_node.specs.Node.ChannelEnd.{Sends}
 use Rattle.mq_core.specs.Values.{CoreValue, manager_of}
-use Rattle.mq_events.specs.declared.outcome.Told.{Told}
-use Rattle.mq_events.specs.States.{NodeState, node_in}
+use Rattle.mq_turn_parts.specs.from_events.{Told}
+use Rattle.mq_turn_parts.specs.from_events.States.{NodeState, node_in}
 use Rattle.mq_law_manager.proofs.ShortSteps.{StepIsShort, tested_all}
-use Rattle.mq_turns.specs.declared.telling.Turn.{Turn}
-use Rattle.mq_turns.specs.declared.telling.Turn.TheVariants as turns
-use Rattle.mq_turns.specs.Turns.{IsAsWas, IsBehind, Made, delta_by, plain_by}
-use Rattle.mq_turns.specs.Told.{Closes}
-use Rattle.mq_turns.specs.Acting.{Acts, SendsTurn}
+use Rattle.mq_turn_parts.specs.declared.telling.Turn.{Turn}
+use Rattle.mq_turn_parts.specs.declared.telling.Turn.TheVariants as turns
+use Rattle.mq_turn_parts.specs.Turns.{IsAsWas, IsBehind, Made, delta_by, plain_by}
+use Rattle.mq_turn_parts.specs.Told.{Closes}
+use Rattle.mq_turn_parts.specs.Acting.{Acts, SendsTurn}
 use Rattle.mq_turns.specs.Prepares.{IsDone, IsRefused, Prepared, Tries, full_parts, step_of, tried_end}
-use Rattle.mq_turns.proofs.AgentLaws.{agent_ran, agent_stopped}
-use Rattle.mq_events.proofs.CallLaws.{where_wider}
-use Rattle.mq_turns.proofs.PartLaws.{le_self, behind_if, behind_none, made_behind, want_made}
+use Rattle.mq_turn_parts.proofs.AgentLaws.{agent_ran, agent_stopped}
+use Rattle.mq_turn_parts.proofs.from_events.CallLaws.{where_wider}
+use Rattle.mq_turn_parts.proofs.PartLaws.{le_self, behind_if, behind_none, made_behind, want_made}
 use Rattle.mq_turns.proofs.SendLaws.{turn_is}
 use Rattle.mq_turns.proofs.SettleLaws.{turned_so}
-use Rattle.mq_turns.proofs.WireLaws.{sends_widened}
+use Rattle.mq_turn_parts.proofs.WireLaws.{sends_widened}
 
 -- What the manager's call comes to.
 abbrev Meets : Step PrepareFault (Unit {0}) → Result (Unit {0}) (Halt PrepareFault) → CoreValue → CoreValue → Type 0

@@ -16,16 +16,16 @@ use Rattle.mq_spec_node.specs.Terms.{Did, Frame, Message, SenderDoes}
 use Rattle.mq_spec_node.specs.Words.{SenderEnd, deed_of, item_of, sender_deed_by, with_end}
 use Rattle.mq_spec_node.specs.Node.ChannelEnd.{Sends}
 use Rattle.mq_wires.specs.Wires.{HasPushed, IsFull, OfferTold, OffersNone}
-use Rattle.mq_events.specs.States.{IsKept, NodeState, node_in}
-use Rattle.mq_events.specs.Events.{Stays}
-use Rattle.mq_turns.specs.declared.telling.Passed.{Passed}
-use Rattle.mq_turns.specs.declared.telling.Turn.TheVariants as turns
-use Rattle.mq_turns.specs.Turns.{pushed_by, turn_entry}
-use Rattle.mq_turns.specs.Told.{Closes, IsTold}
-use Rattle.mq_turns.specs.Wired.{Refuses}
-use Rattle.mq_turns.specs.Acting.{Acts, SendsTurn}
-use Rattle.mq_turns.proofs.PartLaws.{none_made}
-use Rattle.mq_turns.proofs.TurnLaws.{sender_turns}
+use Rattle.mq_turn_parts.specs.from_events.States.{IsKept, NodeState, node_in}
+use Rattle.mq_turn_parts.specs.from_events.Events.{Stays}
+use Rattle.mq_turn_parts.specs.declared.telling.Passed.{Passed}
+use Rattle.mq_turn_parts.specs.declared.telling.Turn.TheVariants as turns
+use Rattle.mq_turn_parts.specs.Turns.{pushed_by, turn_entry}
+use Rattle.mq_turn_parts.specs.Told.{Closes, IsTold}
+use Rattle.mq_turn_parts.specs.Wired.{Refuses}
+use Rattle.mq_turn_parts.specs.Acting.{Acts, SendsTurn}
+use Rattle.mq_turn_parts.proofs.PartLaws.{none_made}
+use Rattle.mq_turn_parts.proofs.TurnLaws.{sender_turns}
 use Rattle.mq_turns.specs.Sends.{behind_end, pushed_deed}
 use Rattle.mq_turns.proofs.SendLaws.{turn_is}
 

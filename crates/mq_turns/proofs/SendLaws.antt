@@ -19,11 +19,11 @@ use Rattle.mq_spec_node.specs.Terms.{Frame, Message, Plain, Part, Seen, SenderDo
 use Rattle.mq_spec_node.specs.Words.{Deed, IsPop, IsStamp, Node, SenderEnd, carried, deed_of, sender_deed_by, sender_end, sender_turn, turned, with_end}
 use Rattle.mq_spec_node.specs.Node.ChannelEnd.{Sends}
 use Rattle.mq_wires.specs.Wires.{Sees}
-use Rattle.mq_turns.specs.Turns.{leave_unless, pushed_by}
-use Rattle.mq_events.specs.States.{NodeState}
-use Rattle.mq_turns.specs.Acting.{Acts}
-use Rattle.mq_turns.proofs.DueLaws.{may_low, up_is}
-use Rattle.mq_turns.proofs.TimeLaws.{leaves_are}
+use Rattle.mq_turn_parts.specs.Turns.{leave_unless, pushed_by}
+use Rattle.mq_turn_parts.specs.from_events.States.{NodeState}
+use Rattle.mq_turn_parts.specs.Acting.{Acts}
+use Rattle.mq_turn_parts.proofs.DueLaws.{may_low, up_is}
+use Rattle.mq_turn_parts.proofs.TimeLaws.{leaves_are}
 use Rattle.mq_turns.specs.Sends.{Works, all_parts, behind_end, pushed_deed, sender_parts}
 
 -- A line that works at the manager.

@@ -14,23 +14,23 @@ use Rattle.mq_sender.specs.After.{done_after}
 use Rattle.mq_sender.specs.declared.turns.SenderDoes.TheVariants as lines
 use Rattle.mq_calls.specs.declared.choices.Choice.TheVariants.{Runs}
 use Rattle.mq_cabled.proofs.EndLaws.{set_same}
-use Rattle.mq_turns.proofs.DueLaws.{sender_is}
-use Rattle.mq_turns.proofs.PartLaws.{none_made}
+use Rattle.mq_turn_parts.proofs.DueLaws.{sender_is}
+use Rattle.mq_turn_parts.proofs.PartLaws.{none_made}
 use Rattle.mq_spec_manager.specs.Agents.{stock}
 use Rattle.mq_spec_node.specs.Terms.{Did, Message, Part, Plain, Seen, SenderDoes}
 use Rattle.mq_spec_node.specs.Words.{ChannelEnd, Deed, Own, SenderEnd, deed_of, end_in, sender_end, turned, with_end}
 use Rattle.mq_spec_node.specs.Node.ChannelEnd.{Sends}
 use Rattle.mq_wires.specs.Wires.{Sees}
 use Rattle.mq_core.specs.Values.{CoreValue}
-use Rattle.mq_events.specs.States.{IsKept, NodeState, node_in, value_of}
-use Rattle.mq_events.specs.Events.{Stays}
-use Rattle.mq_turns.specs.declared.telling.Passed.{Passed}
-use Rattle.mq_turns.specs.declared.telling.Turn.TheVariants as turns
-use Rattle.mq_turns.specs.Turns.{IsAsWas, Made, own_by, turn_entry}
-use Rattle.mq_turns.specs.Told.{Closes, IsTold}
-use Rattle.mq_turns.specs.Wired.{Popped}
-use Rattle.mq_turns.specs.Acting.{Acts, SendsTurn}
-use Rattle.mq_turns.proofs.TurnLaws.{before_of, sender_turns}
+use Rattle.mq_turn_parts.specs.from_events.States.{IsKept, NodeState, node_in, value_of}
+use Rattle.mq_turn_parts.specs.from_events.Events.{Stays}
+use Rattle.mq_turn_parts.specs.declared.telling.Passed.{Passed}
+use Rattle.mq_turn_parts.specs.declared.telling.Turn.TheVariants as turns
+use Rattle.mq_turn_parts.specs.Turns.{IsAsWas, Made, own_by, turn_entry}
+use Rattle.mq_turn_parts.specs.Told.{Closes, IsTold}
+use Rattle.mq_turn_parts.specs.Wired.{Popped}
+use Rattle.mq_turn_parts.specs.Acting.{Acts, SendsTurn}
+use Rattle.mq_turn_parts.proofs.TurnLaws.{before_of, sender_turns}
 use Rattle.mq_turns.specs.Sends.{Works, all_parts, behind_end}
 use Rattle.mq_turns.proofs.SendLaws.{none_pushed, pop_is, stamp_is, turn_is, works_is}
 

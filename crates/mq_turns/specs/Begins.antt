@@ -13,11 +13,11 @@ use Rattle.mq_spec_manager.specs.Agents.{CanHold, hold_batch, stock}
 use Rattle.mq_spec_node.specs.Terms.{Did, Frame, Part, Plain}
 use Rattle.mq_spec_node.specs.Words.{SenderEnd, item_of, parts_of}
 use Rattle.mq_wires.specs.Wires.{HasPushed, IsFull, OffersNone}
-use Rattle.mq_events.specs.States.{NodeState}
+use Rattle.mq_turn_parts.specs.from_events.States.{NodeState}
 use Rattle.mq_turns.specs.declared.beginning.First.{First}
 use Rattle.mq_turns.specs.declared.beginning.First.TheVariants as firsts
-use Rattle.mq_turns.specs.Turns.{Made}
-use Rattle.mq_turns.specs.Acting.{Acts}
+use Rattle.mq_turn_parts.specs.Turns.{Made}
+use Rattle.mq_turn_parts.specs.Acting.{Acts}
 
 -- what is held
 abbrev pub begun_parts : SenderEnd → (n count : ℕ) → Plain → List Part

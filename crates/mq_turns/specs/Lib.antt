@@ -1,9 +1,4 @@
-pub mod Turns
-pub mod Told
 pub mod Sends
-pub mod Wired
-pub mod Acting
-pub mod Unseen
 pub mod Begins
 pub mod Turning
 pub mod Prepares

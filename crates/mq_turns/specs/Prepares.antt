@@ -17,11 +17,11 @@ use Rattle.mq_base.specs.declared.want.NoMemory.{NoMemory as Want}
 use Rattle.mq_spec_node.specs.Terms.{Did, Part, Plain, PrepareFault, Step, Refuse, Do}
 use Rattle.mq_spec_node.specs.Words.{SenderEnd, parts_of}
 use Rattle.mq_core.specs.Values.{CoreValue}
-use Rattle.mq_events.specs.declared.outcome.Told.{Told}
+use Rattle.mq_turn_parts.specs.from_events.{Told}
 use Rattle.mq_turns.specs.declared.preparing.Tried.{Tried}
 use Rattle.mq_turns.specs.declared.preparing.Unprepared.{Unprepared}
 use Rattle.mq_turns.specs.declared.preparing.Unprepared.TheVariants as causes
-use Rattle.mq_turns.specs.Turns.{IsAsWas, Made}
+use Rattle.mq_turn_parts.specs.Turns.{IsAsWas, Made}
 
 -- the batch fits in the log, or does not
 abbrev pub IsDone : Step PrepareFault (Unit {0}) → Type 0

@@ -7,7 +7,7 @@ use Rattle.mq_sender.specs.After.{done_after}
 use Rattle.mq_spec_node.specs.Terms.{Frame, SenderDoes, Plain, Part, expire, harden}
 use Rattle.mq_spec_node.specs.Words.{Deed, Node, SenderEnd, parts_of, settle_parts, settle_parts_if, turned, with_end}
 use Rattle.mq_spec_node.specs.Node.ChannelEnd.{Sends}
-use Rattle.mq_turns.specs.Turns.{leave_unless}
+use Rattle.mq_turn_parts.specs.Turns.{leave_unless}
 
 -- lines that do no more at the manager than to harden a record or to remove expired rows
 abbrev pub Works : SenderDoes → Type 0

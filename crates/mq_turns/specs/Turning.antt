@@ -7,10 +7,10 @@ use Rattle.mq_history.specs.declared.calls.Actor.TheVariants as actors
 use Rattle.mq_spec_manager.specs.Agents.{IsUp}
 use Rattle.mq_spec_node.specs.Terms.{Seen}
 use Rattle.mq_spec_node.specs.Words.{SenderEnd, sender_end}
-use Rattle.mq_events.specs.States.{NodeState}
-use Rattle.mq_turns.specs.declared.telling.Turn.{Turn}
-use Rattle.mq_turns.specs.Acting.{SendsTurn}
-use Rattle.mq_turns.specs.Unseen.{IsUnseen, turn_deed}
+use Rattle.mq_turn_parts.specs.from_events.States.{NodeState}
+use Rattle.mq_turn_parts.specs.declared.telling.Turn.{Turn}
+use Rattle.mq_turn_parts.specs.Acting.{SendsTurn}
+use Rattle.mq_turn_parts.specs.Unseen.{IsUnseen, turn_deed}
 
 -- a sender's end of this cable, at a manager that is up
 pub record IsHere (cable : ℕ) (e : SenderEnd) (s : NodeState) : Type 0 where

@@ -1,29 +1,24 @@
 //! A sender's turn where an item waits.
-ghost use Rattle.std.specs.Prelude.{◌≡◌, ◌<◌, ◌≤◌, ◌^◌, true, IfSome};
-ghost use Rattle.mq_cable.specs.Offers.{Offering};
+ghost use Rattle.std.specs.Prelude.{◌≡◌, true, IfSome};
 ghost use Rattle.mq_frame.specs.Sight.{waits};
-ghost use Rattle.mq_frame.specs.declared.frame.Seen.TheVariants as items;
 ghost use Rattle.mq_sender.specs.Table.{sender_next};
 ghost use Rattle.mq_sender.specs.declared.turns.SenderDoes.TheVariants as does_what;
 ghost use Rattle.mq_spec_manager.specs.Agents.{stock};
-ghost use Rattle.mq_wires.specs.Wires.{Sees};
-ghost use Rattle.mq_turns.specs.Acting.{Acts, SendsTurn};
+ghost use Rattle.mq_turn_parts.specs.Acting.{MayTurn};
+ghost use Rattle.mq_turn_parts.specs.OverWire.{AnswersOver, HasSeen};
 ghost use Rattle.mq_turns.specs.Sends.{is_ignore, unseen};
 
-use crate::parting::nothing_done;
-use crate::passing::pass;
 use crate::settling::settling_turn;
-use crate::telling::{Passed, Turn, close_turn};
 use mq_base::NoMemory;
 use mq_cable::Wire;
-use mq_calls::Messages;
 use mq_disk::Disk;
-use mq_events::NodeParts;
 use mq_frame::Seen;
-use mq_history::{Actor, Call};
-use mq_own::{ChannelEnd, EndKind, SenderEnd};
+use mq_history::Actor;
+use mq_own::{EndKind, SenderEnd};
 use mq_sender::{Sender, SenderDoes};
 use mq_sync::Stock;
+use mq_turn_parts::below::NodeParts;
+use mq_turn_parts::{Passed, Turn, end_turn, nothing_done, pass};
 use mq_wires::{Sight, next_stamp};
 
 /// The last number of 64 bits.
@@ -56,12 +51,10 @@ fn ignoring_turn<D: Disk, W: Wire>(
     end: SenderEnd,
     sight: Sight,
 ) -> Result<Turn, NoMemory>
-    requires room { 0 < parts.old.room }
-    requires acts { Acts end parts.old }
+    requires may { MayTurn end parts.old }
     requires next { does_what.Ignore ≡ sender_next end.machine sight.seen (stock end.channel parts.old.manager.plain) }
-    requires sees { Sees (W.front_of wire.old) (Unit {0}) sight.seen sight.stamp }
-    requires low { sight.stamp ≤ 2 ^ 60 }
-    ensures { (o : Offering) → SendsTurn end.cable (λ xs. W.reads wire.old xs wire.new) (λ xs. W.writes wire.old xs wire.new) (sight.seen ≡ items.Nothing) ⊥ o o parts.old result parts.new }
+    requires saw { HasSeen (W.front_of wire.old) sight.seen sight.stamp }
+    ensures { AnswersOver W.Wire wire.old wire.new end.cable sight.seen parts.old result parts.new }
 {
     let stamp = next_stamp(parts.stamp, sight.stamp);
     let cable = end.cable;
@@ -73,17 +66,8 @@ fn ignoring_turn<D: Disk, W: Wire>(
         extras: 0,
         popped: sight.seen,
     };
-    let received = Messages::new(parts.alloc);
     let kind = EndKind::Sends(end);
-    close_turn(
-        parts,
-        Actor::Sender(cable),
-        Call::Turn,
-        told,
-        ChannelEnd { kind },
-        passed,
-        received,
-    );
+    end_turn(parts, Actor::Sender(cable), told, kind, passed);
     Ok(Turn::Changed)
 }
 
@@ -106,13 +90,11 @@ fn answer_turn<D: Disk, W: Wire>(
     does: SenderDoes,
     sight: Sight,
 ) -> Result<Turn, NoMemory>
-    requires room { 0 < parts.old.room }
-    requires acts { Acts end parts.old }
+    requires may { MayTurn end parts.old }
     requires waits { waits sight.seen ≡ true }
     requires next { does ≡ sender_next end.machine sight.seen unseen }
-    requires sees { Sees (W.front_of wire.old) (Unit {0}) sight.seen sight.stamp }
-    requires low { sight.stamp ≤ 2 ^ 60 }
-    ensures { (o : Offering) → SendsTurn end.cable (λ xs. W.reads wire.old xs wire.new) (λ xs. W.writes wire.old xs wire.new) (sight.seen ≡ items.Nothing) ⊥ o o parts.old result parts.new }
+    requires saw { HasSeen (W.front_of wire.old) sight.seen sight.stamp }
+    ensures { AnswersOver W.Wire wire.old wire.new end.cable sight.seen parts.old result parts.new }
 {
     if is_ignore(&does) {
         return ignoring_turn(parts, wire, end, sight);
@@ -127,12 +109,10 @@ pub fn answering_turn<D: Disk, W: Wire>(
     end: SenderEnd,
     sight: Sight,
 ) -> Result<Turn, NoMemory>
-    requires room { 0 < parts.old.room }
-    requires acts { Acts end parts.old }
+    requires may { MayTurn end parts.old }
     requires waits { waits sight.seen ≡ true }
-    requires sees { Sees (W.front_of wire.old) (Unit {0}) sight.seen sight.stamp }
-    requires low { sight.stamp ≤ 2 ^ 60 }
-    ensures { (o : Offering) → SendsTurn end.cable (λ xs. W.reads wire.old xs wire.new) (λ xs. W.writes wire.old xs wire.new) (sight.seen ≡ items.Nothing) ⊥ o o parts.old result parts.new }
+    requires saw { HasSeen (W.front_of wire.old) sight.seen sight.stamp }
+    ensures { AnswersOver W.Wire wire.old wire.new end.cable sight.seen parts.old result parts.new }
 {
     let unseen = Stock {
         enabled: false,

@@ -7,10 +7,10 @@ ghost use Rattle.mq_spec_manager.specs.Agents.{HasNoBatch, HasSeized, unit_of};
 
 use mq_base::ChName;
 use mq_core::Parts;
+use mq_core::below::{batch_of, seizure_of, sender_of};
 use mq_disk::Disk;
-use mq_manager::Manager;
-use mq_sides::{batch_of, seizure_of, sender_of};
 use mq_sync::{SenderData, Unit};
+use mq_turn_parts::below::Manager;
 
 /// The channel has its queue open.
 fn is_seized<D: Disk>(parts: &Parts<D>, channel: &ChName) -> bool

@@ -6,23 +6,22 @@ ghost use Rattle.mq_sender.specs.Table.{sender_next};
 ghost use Rattle.mq_sender.specs.declared.turns.SenderDoes.TheVariants as does_what;
 ghost use Rattle.mq_spec_manager.specs.Agents.{HasBatch, IsUp, batch_row, stock};
 ghost use Rattle.mq_spec_node.specs.Words.{carried};
-ghost use Rattle.mq_turns.specs.Acting.{Acts, SendsTurn};
+ghost use Rattle.mq_turn_parts.specs.Acting.{MayTurn};
 ghost use Rattle.mq_turns.specs.Begins.{Begins, FirstTold};
+ghost use Rattle.mq_turn_parts.specs.OverWire.{SendsOver};
 
 use crate::holding::{give_up_at, held_in};
-use crate::passing::has_spelling;
 use crate::pushing::batch_frame;
 use crate::settling::end_after;
-use crate::telling::{Passed, Turn, close_turn};
 use mq_base::NoMemory;
 use mq_cable::{Offers, Wire};
-use mq_calls::Messages;
 use mq_disk::Disk;
-use mq_events::{NodeParts, Told};
 use mq_frame::{Frame, Seen};
-use mq_history::{Actor, Call};
-use mq_own::{ChannelEnd, EndKind, SenderEnd};
+use mq_history::Actor;
+use mq_own::{EndKind, SenderEnd};
 use mq_sender::SenderDoes;
+use mq_turn_parts::below::{NodeParts, Told};
+use mq_turn_parts::{Passed, Turn, end_turn, has_spelling};
 use mq_wires::offer;
 use std::alloc::Global;
 
@@ -92,7 +91,7 @@ fn begun_turn<D: Disk, W: Wire>(
     requires batch { HasBatch end.channel parts.old.manager.plain }
     requires stamp { stamp ≤ 2 ^ 60 }
     requires count { offers.old.number < 2 ^ 48 }
-    ensures { Begins end n count stamp told.choice told.delta parts.old (λ s. SendsTurn end.cable (λ xs. W.reads wire.old xs wire.new) (λ xs. W.writes wire.old xs wire.new) (Unit {0}) (W.was_full wire.old wire.new) offers.old offers.new s result parts.new) }
+    ensures { Begins end n count stamp told.choice told.delta parts.old (λ s. SendsOver W.Wire wire.old wire.new end.cable (Unit {0}) offers.old offers.new s result parts.new) }
 {
     let after = end_after(&end, &SenderDoes::Begin { n, count });
     match first_offer(parts, offers, wire, &end, stamp, n) {
@@ -111,17 +110,8 @@ fn begun_turn<D: Disk, W: Wire>(
                 extras,
                 popped: Seen::Nothing,
             };
-            let received = Messages::new(parts.alloc);
             let kind = EndKind::Sends(after);
-            close_turn(
-                parts,
-                Actor::Sender(end.cable),
-                Call::Turn,
-                told,
-                ChannelEnd { kind },
-                passed,
-                received,
-            );
+            end_turn(parts, Actor::Sender(end.cable), told, kind, passed);
             Ok(Turn::Changed)
         }
     }
@@ -138,11 +128,10 @@ pub fn begin_turn<D: Disk, W: Wire>(
     n: u64,
     count: u32,
 ) -> Result<Turn, NoMemory>
-    requires room { 0 < parts.old.room }
-    requires acts { Acts end parts.old }
+    requires may { MayTurn end parts.old }
     requires next { does_what.Begin n count ≡ sender_next end.machine items.Nothing (stock end.channel parts.old.manager.plain) }
     requires count { offers.old.number < 2 ^ 48 }
-    ensures { SendsTurn end.cable (λ xs. W.reads wire.old xs wire.new) (λ xs. W.writes wire.old xs wire.new) (Unit {0}) (W.was_full wire.old wire.new) offers.old offers.new parts.old result parts.new }
+    ensures { SendsOver W.Wire wire.old wire.new end.cable (Unit {0}) offers.old offers.new parts.old result parts.new }
 {
     let stamp = parts.stamp + 1;
     let unit = mq_sync::Unit {

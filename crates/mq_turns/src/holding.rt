@@ -5,19 +5,18 @@ ghost use Rattle.mq_core.specs.Views.{plain_of};
 ghost use Rattle.mq_calls.specs.Words.{do_all};
 ghost use Rattle.mq_spec_manager.specs.Agents.{CanHold, HasBatch, HasNoDoubt, IsUp, hold_batch, release_batch};
 ghost use Rattle.mq_spec_node.specs.Words.{parts_of};
-ghost use Rattle.mq_agents.specs.Releasing.{batch_freed};
-ghost use Rattle.mq_turns.specs.Turns.{IsBehind, MadeOr};
+ghost use Rattle.mq_turn_parts.specs.from_agents.Releasing.{batch_freed};
+ghost use Rattle.mq_turn_parts.specs.Turns.{IsBehind, MadeOr};
 
 use crate::asking::{has_no_batch, has_seized};
-use crate::parting::ran;
 use mq_base::{ChName, NoMemory};
+use mq_core::below::{drop_side, sender_of};
 use mq_core::{Core, Parts};
 use mq_disk::Disk;
-use mq_events::{NodeParts, Told};
-use mq_manager::Manager;
 use mq_message::Holder;
-use mq_sides::{drop_side, sender_of};
 use mq_sync::Unit;
+use mq_turn_parts::below::{Manager, NodeParts, Told};
+use mq_turn_parts::ran;
 
 /// It has nothing in doubt.
 fn has_no_doubt<D: Disk>(parts: &Parts<D>, channel: &ChName) -> bool
@@ -60,7 +59,7 @@ fn held<D: Disk>(
 }
 
 /// So, where the channel may; where it may not, which never comes, there is no memory.
-#[tactic(auto, using(crate::proofs::AgentLaws::as_was))]
+#[tactic(auto, using(mq_turn_parts::proofs::AgentLaws::as_was))]
 fn held_if<D: Disk>(
     manager: &mut Manager<D>,
     channel: &ChName,

@@ -1,6 +1,6 @@
 //! A sender's turn that prepares its batch as the unit in doubt; where the log has no room, the batch is released and the sender stops.
-ghost use Rattle.std.specs.Prelude.{◌≡◌, ◌<◌, ◌≤◌, [], true};
-ghost use Rattle.mq_agents.specs.Ends.{prepare_halt};
+ghost use Rattle.std.specs.Prelude.{◌≡◌, ◌≤◌, [], true};
+ghost use Rattle.mq_turn_parts.specs.from_agents.Ends.{prepare_halt};
 ghost use Rattle.mq_cable.specs.Offers.{Offering};
 ghost use Rattle.mq_core.specs.Views.{plain_of};
 ghost use Rattle.mq_frame.specs.declared.frame.Seen.TheVariants as items;
@@ -8,28 +8,25 @@ ghost use Rattle.mq_sender.specs.After.{number_sent};
 ghost use Rattle.mq_sender.specs.Table.{sender_next};
 ghost use Rattle.mq_sender.specs.declared.turns.SenderDoes.TheVariants as does_what;
 ghost use Rattle.mq_spec_manager.specs.Agents.{CanPrepare, HasBatch, IsUp, prepare, stock};
-ghost use Rattle.mq_spec_log.specs.Applies.{are_distinct as are_distinct_by};
+ghost use Rattle.mq_turn_parts.specs.from_spec_log.Applies.{are_distinct as are_distinct_by};
 ghost use Rattle.mq_calls.specs.Recovery.{IsNumbered};
 ghost use Rattle.mq_calls.specs.Words.{sender_data, sender_or};
-ghost use Rattle.mq_turns.specs.Acting.{Acts, SendsTurn};
+ghost use Rattle.mq_turn_parts.specs.Acting.{MayTurn, SendsTurn};
 ghost use Rattle.mq_turns.specs.Prepares.{MayPrepare, Prepared, TriesOr, full_parts, halt_of, step_of, tried_end};
-ghost use Rattle.mq_turns.specs.Turns.{MadeOr};
+ghost use Rattle.mq_turn_parts.specs.Turns.{MadeOr};
 
-use crate::parting::{leave_if, ran, released, stopped};
-use crate::telling::{Passed, Turn, close_turn};
 use mq_base::{ChName, NoMemory};
-use mq_calls::{AgentStop, Messages, PrepareFault};
+use mq_calls::{AgentStop, PrepareFault};
 use mq_core::Parts;
+use mq_core::below::{batch_of, sender_of};
 use mq_disk::{Disk, Stop};
-use mq_events::{NodeParts, Told};
 use mq_frame::Seen;
-use mq_history::{Actor, Call};
-use mq_manager::Manager;
+use mq_history::Actor;
 use mq_message::Ident;
-use mq_own::{ChannelEnd, EndKind, SenderEnd};
+use mq_own::{EndKind, SenderEnd};
 use mq_sender::{Sender, SenderDoes, SenderOut, SenderState};
-use mq_shelves::are_distinct;
-use mq_sides::{batch_of, sender_of};
+use mq_turn_parts::below::{Manager, NodeParts, Told, are_distinct};
+use mq_turn_parts::{Passed, Turn, end_turn, leave_if, ran, released, stopped};
 use std::alloc::Global;
 
 /// The session that is hardened.
@@ -126,7 +123,7 @@ fn prepared<D: Disk>(
 }
 
 /// So, where the channel may; where it may not, which never comes, there is no memory.
-#[tactic(auto, using(crate::proofs::AgentLaws::as_was))]
+#[tactic(auto, using(mq_turn_parts::proofs::AgentLaws::as_was))]
 fn prepared_if<D: Disk>(
     manager: &mut Manager<D>,
     channel: &ChName,
@@ -146,7 +143,7 @@ fn prepared_if<D: Disk>(
 /// # Errors
 ///
 /// No memory; nothing has changed.
-#[tactic(auto, using(crate::proofs::RunLaws::stays_up))]
+#[tactic(auto, using(mq_turn_parts::proofs::RunLaws::stays_up))]
 fn given_back<D: Disk>(manager: &mut Manager<D>, channel: &ChName) -> Result<Told, NoMemory>
     requires up { IsUp manager.old.plain }
     requires batch { HasBatch channel.now manager.old.plain }
@@ -243,8 +240,7 @@ fn end_tried(end: &SenderEnd, out: &SenderOut) -> SenderEnd
 /// No memory; nothing has changed.
 #[tactic(auto, using(crate::proofs::SendLaws::acts_low))]
 pub fn prepare_turn<D: Disk>(parts: &mut NodeParts<D>, end: SenderEnd) -> Result<Turn, NoMemory>
-    requires room { 0 < parts.old.room }
-    requires acts { Acts end parts.old }
+    requires may { MayTurn end parts.old }
     requires next { does_what.Prepare ≡ sender_next end.machine items.Nothing (stock end.channel parts.old.manager.plain) }
     ensures { (o : Offering) → SendsTurn end.cable (λ xs. xs ≡ []) (λ xs. xs ≡ []) (Unit {0}) ⊥ o o parts.old result parts.new }
 {
@@ -259,17 +255,8 @@ pub fn prepare_turn<D: Disk>(parts: &mut NodeParts<D>, end: SenderEnd) -> Result
                 extras: 0,
                 popped: Seen::Nothing,
             };
-            let received = Messages::new(parts.alloc);
             let kind = EndKind::Sends(after);
-            close_turn(
-                parts,
-                Actor::Sender(end.cable),
-                Call::Turn,
-                told,
-                ChannelEnd { kind },
-                passed,
-                received,
-            );
+            end_turn(parts, Actor::Sender(end.cable), told, kind, passed);
             Ok(Turn::Changed)
         }
     }

@@ -7,26 +7,23 @@ ghost use Rattle.mq_sender.specs.Table.{sender_next};
 ghost use Rattle.mq_sender.specs.declared.turns.SenderDoes.TheVariants as does_what;
 ghost use Rattle.mq_spec_manager.specs.Agents.{batch_row, stock};
 ghost use Rattle.mq_spec_node.specs.Words.{carried, sender_deed_by};
-ghost use Rattle.mq_events.specs.States.{node_in};
-ghost use Rattle.mq_turns.specs.Acting.{Acts, SendsTurn};
+ghost use Rattle.mq_turn_parts.specs.from_events.States.{node_in};
+ghost use Rattle.mq_turn_parts.specs.Acting.{MayTurn};
+ghost use Rattle.mq_turn_parts.specs.OverWire.{SendsOver};
 ghost use Rattle.mq_turns.specs.Sends.{pushed_deed};
 
-use crate::parting::nothing_done;
-use crate::passing::has_spelling;
 use crate::settling::end_after;
-use crate::telling::{Passed, Turn, close_turn};
 use mq_base::NoMemory;
 use mq_cable::{Offers, Wire};
-use mq_calls::Messages;
 use mq_disk::Disk;
-use mq_events::NodeParts;
 use mq_fill::names_of;
 use mq_frame::{Frame, Seen};
-use mq_history::{Actor, Call};
-use mq_manager::Manager;
+use mq_history::Actor;
 use mq_message::{Bytes, Message};
-use mq_own::{ChannelEnd, EndKind, SenderEnd};
+use mq_own::{EndKind, SenderEnd};
 use mq_sender::SenderDoes;
+use mq_turn_parts::below::{Manager, NodeParts};
+use mq_turn_parts::{Passed, Turn, end_turn, has_spelling, nothing_done};
 use mq_wires::offer;
 use std::alloc::Global;
 
@@ -90,14 +87,13 @@ fn pushing_turn<D: Disk, W: Wire>(
     does: SenderDoes,
     frame: Frame,
 ) -> Result<Turn, NoMemory>
-    requires room { 0 < parts.old.room }
-    requires acts { Acts end parts.old }
+    requires may { MayTurn end parts.old }
     requires next { does ≡ sender_next end.machine items.Nothing (stock end.channel parts.old.manager.plain) }
     requires deed { sender_deed_by (parts.old.stamp + 1) end does (node_in parts.old) ≡ Some (pushed_deed end does frame (node_in parts.old)) }
     requires stamp { frame.stamp ≡ parts.old.stamp + 1 }
     requires spells { HasSpelling frame.kind }
     requires count { offers.old.number < 2 ^ 48 }
-    ensures { SendsTurn end.cable (λ xs. W.reads wire.old xs wire.new) (λ xs. W.writes wire.old xs wire.new) (Unit {0}) (W.was_full wire.old wire.new) offers.old offers.new parts.old result parts.new }
+    ensures { SendsOver W.Wire wire.old wire.new end.cable (Unit {0}) offers.old offers.new parts.old result parts.new }
 {
     match offer(parts.alloc, &frame, offers, wire) {
         Err(NoMemory) => Err(NoMemory),
@@ -111,24 +107,15 @@ fn pushing_turn<D: Disk, W: Wire>(
                 extras,
                 popped: Seen::Nothing,
             };
-            let received = Messages::new(parts.alloc);
             let kind = EndKind::Sends(after);
-            close_turn(
-                parts,
-                Actor::Sender(end.cable),
-                Call::Turn,
-                told,
-                ChannelEnd { kind },
-                passed,
-                received,
-            );
+            end_turn(parts, Actor::Sender(end.cable), told, kind, passed);
             Ok(Turn::Changed)
         }
     }
 }
 
 /// So of a frame whose bytes may not show it, which no end makes.
-fn spelling_turn<D: Disk, W: Wire>(
+pub(crate) fn spelling_turn<D: Disk, W: Wire>(
     parts: &mut NodeParts<D>,
     offers: &mut Offers,
     wire: &mut W,
@@ -136,54 +123,17 @@ fn spelling_turn<D: Disk, W: Wire>(
     does: SenderDoes,
     frame: Frame,
 ) -> Result<Turn, NoMemory>
-    requires room { 0 < parts.old.room }
-    requires acts { Acts end parts.old }
+    requires may { MayTurn end parts.old }
     requires next { does ≡ sender_next end.machine items.Nothing (stock end.channel parts.old.manager.plain) }
     requires deed { sender_deed_by (parts.old.stamp + 1) end does (node_in parts.old) ≡ Some (pushed_deed end does frame (node_in parts.old)) }
     requires stamp { frame.stamp ≡ parts.old.stamp + 1 }
     requires count { offers.old.number < 2 ^ 48 }
-    ensures { SendsTurn end.cable (λ xs. W.reads wire.old xs wire.new) (λ xs. W.writes wire.old xs wire.new) (Unit {0}) (W.was_full wire.old wire.new) offers.old offers.new parts.old result parts.new }
+    ensures { SendsOver W.Wire wire.old wire.new end.cable (Unit {0}) offers.old offers.new parts.old result parts.new }
 {
     if !has_spelling(&frame.kind) {
         return Err(NoMemory);
     }
     pushing_turn(parts, offers, wire, end, does, frame)
-}
-
-/// BIND is offered.
-#[tactic(auto, using(crate::proofs::SendLaws::bind_deed, crate::proofs::SendLaws::bind_stamp, crate::proofs::SendLaws::acts_low))]
-pub fn bind_turn<D: Disk, W: Wire>(
-    parts: &mut NodeParts<D>,
-    offers: &mut Offers,
-    wire: &mut W,
-    end: SenderEnd,
-) -> Result<Turn, NoMemory>
-    requires room { 0 < parts.old.room }
-    requires acts { Acts end parts.old }
-    requires next { does_what.PushBind ≡ sender_next end.machine items.Nothing (stock end.channel parts.old.manager.plain) }
-    requires count { offers.old.number < 2 ^ 48 }
-    ensures { SendsTurn end.cable (λ xs. W.reads wire.old xs wire.new) (λ xs. W.writes wire.old xs wire.new) (Unit {0}) (W.was_full wire.old wire.new) offers.old offers.new parts.old result parts.new }
-{
-    let frame = end.machine.bind_frame(parts.stamp + 1);
-    spelling_turn(parts, offers, wire, end, SenderDoes::PushBind, frame)
-}
-
-/// END is offered.
-#[tactic(auto, using(crate::proofs::SendLaws::end_deed, crate::proofs::SendLaws::end_stamp, crate::proofs::SendLaws::acts_low))]
-pub fn end_turn<D: Disk, W: Wire>(
-    parts: &mut NodeParts<D>,
-    offers: &mut Offers,
-    wire: &mut W,
-    end: SenderEnd,
-) -> Result<Turn, NoMemory>
-    requires room { 0 < parts.old.room }
-    requires acts { Acts end parts.old }
-    requires next { does_what.PushEnd ≡ sender_next end.machine items.Nothing (stock end.channel parts.old.manager.plain) }
-    requires count { offers.old.number < 2 ^ 48 }
-    ensures { SendsTurn end.cable (λ xs. W.reads wire.old xs wire.new) (λ xs. W.writes wire.old xs wire.new) (Unit {0}) (W.was_full wire.old wire.new) offers.old offers.new parts.old result parts.new }
-{
-    let frame = end.machine.end_frame(parts.stamp + 1);
-    spelling_turn(parts, offers, wire, end, SenderDoes::PushEnd, frame)
 }
 
 /// The next message of the batch is offered.
@@ -195,11 +145,10 @@ pub fn message_turn<D: Disk, W: Wire>(
     end: SenderEnd,
     index: u32,
 ) -> Result<Turn, NoMemory>
-    requires room { 0 < parts.old.room }
-    requires acts { Acts end parts.old }
+    requires may { MayTurn end parts.old }
     requires next { does_what.PushMsg index ≡ sender_next end.machine items.Nothing (stock end.channel parts.old.manager.plain) }
     requires count { offers.old.number < 2 ^ 48 }
-    ensures { SendsTurn end.cable (λ xs. W.reads wire.old xs wire.new) (λ xs. W.writes wire.old xs wire.new) (Unit {0}) (W.was_full wire.old wire.new) offers.old offers.new parts.old result parts.new }
+    ensures { SendsOver W.Wire wire.old wire.new end.cable (Unit {0}) offers.old offers.new parts.old result parts.new }
 {
     let stamp = parts.stamp + 1;
     match batch_frame(

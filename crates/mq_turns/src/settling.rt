@@ -1,25 +1,21 @@
 //! A sender's turn that hardens a record or removes expired rows: it offers nothing, and pops what was seen, if anything was.
-ghost use Rattle.std.specs.Prelude.{◌≡◌, ◌<◌, ◌≤◌, ◌^◌};
-ghost use Rattle.mq_cable.specs.Offers.{Offering};
-ghost use Rattle.mq_frame.specs.declared.frame.Seen.TheVariants as items;
+ghost use Rattle.std.specs.Prelude.{◌≡◌};
 ghost use Rattle.mq_sender.specs.Table.{sender_next};
 ghost use Rattle.mq_sender.specs.After.{done_after};
 ghost use Rattle.mq_spec_manager.specs.Agents.{stock};
-ghost use Rattle.mq_wires.specs.Wires.{Sees};
-ghost use Rattle.mq_turns.specs.Acting.{Acts, SendsTurn};
+ghost use Rattle.mq_turn_parts.specs.Acting.{MayTurn};
+ghost use Rattle.mq_turn_parts.specs.OverWire.{AnswersOver, HasSeen};
 ghost use Rattle.mq_turns.specs.Sends.{Works};
 
-use crate::passing::pass;
-use crate::telling::{Passed, Turn, close_turn};
 use crate::working::work_in;
 use mq_base::NoMemory;
 use mq_cable::Wire;
-use mq_calls::Messages;
 use mq_disk::Disk;
-use mq_events::NodeParts;
-use mq_history::{Actor, Call};
-use mq_own::{ChannelEnd, EndKind, SenderEnd};
+use mq_history::Actor;
+use mq_own::{EndKind, SenderEnd};
 use mq_sender::{SenderDoes, SenderOut};
+use mq_turn_parts::below::NodeParts;
+use mq_turn_parts::{Passed, Turn, end_turn, pass};
 use mq_wires::{Sight, next_stamp};
 
 /// The end after a line of its table.
@@ -45,13 +41,11 @@ pub fn settling_turn<D: Disk, W: Wire>(
     does: SenderDoes,
     sight: Sight,
 ) -> Result<Turn, NoMemory>
-    requires room { 0 < parts.old.room }
-    requires acts { Acts end parts.old }
+    requires may { MayTurn end parts.old }
     requires next { does ≡ sender_next end.machine sight.seen (stock end.channel parts.old.manager.plain) }
     requires works { Works does }
-    requires sees { Sees (W.front_of wire.old) (Unit {0}) sight.seen sight.stamp }
-    requires low { sight.stamp ≤ 2 ^ 60 }
-    ensures { (o : Offering) → SendsTurn end.cable (λ xs. W.reads wire.old xs wire.new) (λ xs. W.writes wire.old xs wire.new) (sight.seen ≡ items.Nothing) ⊥ o o parts.old result parts.new }
+    requires saw { HasSeen (W.front_of wire.old) sight.seen sight.stamp }
+    ensures { AnswersOver W.Wire wire.old wire.new end.cable sight.seen parts.old result parts.new }
 {
     let stamp = next_stamp(parts.stamp, sight.stamp);
     let after = end_after(&end, &does);
@@ -67,16 +61,7 @@ pub fn settling_turn<D: Disk, W: Wire>(
                 popped: sight.seen,
             };
             let kind = EndKind::Sends(after);
-            let received = Messages::new(parts.alloc);
-            close_turn(
-                parts,
-                Actor::Sender(end.cable),
-                Call::Turn,
-                told,
-                ChannelEnd { kind },
-                passed,
-                received,
-            );
+            end_turn(parts, Actor::Sender(end.cable), told, kind, passed);
             Ok(Turn::Changed)
         }
     }

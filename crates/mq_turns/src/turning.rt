@@ -1,36 +1,35 @@
 //! A sender's turn.
-ghost use Rattle.std.specs.Prelude.{◌≡◌, ◌<◌, ◌≤◌, ◌^◌, [], false, IfSome, MatchOption};
+ghost use Rattle.std.specs.Prelude.{◌≡◌, ◌<◌, ◌^◌, [], false, IfSome, MatchOption};
 ghost use Rattle.mq_frame.specs.Sight.{waits};
 ghost use Rattle.mq_frame.specs.declared.frame.Seen.TheVariants as items;
 ghost use Rattle.mq_history.specs.declared.calls.Actor.TheVariants as actors;
 ghost use Rattle.mq_sender.specs.Table.{is_idle, sender_next};
 ghost use Rattle.mq_spec_manager.specs.Agents.{IsUp, stock};
-ghost use Rattle.mq_wires.specs.Wires.{Sees};
-ghost use Rattle.mq_events.specs.Counts.{IsNode};
-ghost use Rattle.mq_events.specs.Events.{MayAct};
-ghost use Rattle.mq_events.specs.States.{IsKept, IsServed};
-ghost use Rattle.mq_turns.specs.Acting.{Acts, SendsTurn};
+ghost use Rattle.mq_turn_parts.specs.from_events.Counts.{IsNode};
+ghost use Rattle.mq_turn_parts.specs.from_events.Events.{MayAct};
+ghost use Rattle.mq_turn_parts.specs.from_events.States.{IsKept, IsServed};
+ghost use Rattle.mq_turn_parts.specs.Acting.{Acts, MayTurn};
+ghost use Rattle.mq_turn_parts.specs.OverWire.{EndsOver, FoundNothing, HasSeen, SendsOver};
 ghost use Rattle.mq_turns.specs.Sends.{IsOwn};
 ghost use Rattle.mq_turns.specs.Turning.{IsHere, NeverActs, SendsAt};
-ghost use Rattle.mq_turns.specs.Unseen.{EndTurn};
+ghost use Rattle.mq_turn_parts.specs.Unseen.{EndTurn};
 
 use crate::answering::{answering_turn, next_line};
 use crate::asking::has_seized;
 use crate::beginning::begin_turn;
 use crate::preparing::prepare_turn;
-use crate::pushing::{bind_turn, end_turn, message_turn};
+use crate::pushing::{message_turn, spelling_turn};
 use crate::settling::settling_turn;
-use crate::telling::Turn;
 use mq_base::NoMemory;
 use mq_cable::{Offers, Wire};
 use mq_cabled::sender_of;
 use mq_disk::Disk;
-use mq_events::{Node, NodeParts};
 use mq_frame::Seen;
-use mq_manager::Manager;
 use mq_own::SenderEnd;
 use mq_sender::{Sender, SenderDoes, SenderState};
 use mq_sync::Stock;
+use mq_turn_parts::Turn;
+use mq_turn_parts::below::{Manager, Node, NodeParts};
 use mq_wires::{Sight, see};
 
 fn is_idle(machine: &Sender) -> bool
@@ -81,7 +80,7 @@ fn own_line<D: Disk>(manager: &Manager<D>, end: &SenderEnd) -> Option<SenderDoes
 }
 
 /// The turn of a line of its own.
-#[tactic(auto, using(crate::proofs::LineLaws::seen_next))]
+#[tactic(auto, using(crate::proofs::LineLaws::seen_next, crate::proofs::SendLaws::bind_deed, crate::proofs::SendLaws::bind_stamp, crate::proofs::SendLaws::end_deed, crate::proofs::SendLaws::end_stamp, crate::proofs::SendLaws::acts_low))]
 fn line_turn<D: Disk, W: Wire>(
     parts: &mut NodeParts<D>,
     offers: &mut Offers,
@@ -90,25 +89,29 @@ fn line_turn<D: Disk, W: Wire>(
     does: SenderDoes,
     sight: Sight,
 ) -> Result<Turn, NoMemory>
-    requires room { 0 < parts.old.room }
-    requires acts { Acts end parts.old }
+    requires may { MayTurn end parts.old }
     requires nothing { sight.seen ≡ items.Nothing }
     requires own { IsOwn does }
     requires next { does ≡ sender_next end.machine items.Nothing (stock end.channel parts.old.manager.plain) }
-    requires sees { Sees (W.front_of wire.old) (Unit {0}) sight.seen sight.stamp }
-    requires low { sight.stamp ≤ 2 ^ 60 }
+    requires saw { HasSeen (W.front_of wire.old) sight.seen sight.stamp }
     requires count { offers.old.number < 2 ^ 48 }
-    ensures { SendsTurn end.cable (λ xs. W.reads wire.old xs wire.new) (λ xs. W.writes wire.old xs wire.new) (Unit {0}) (W.was_full wire.old wire.new) offers.old offers.new parts.old result parts.new }
+    ensures { SendsOver W.Wire wire.old wire.new end.cable (Unit {0}) offers.old offers.new parts.old result parts.new }
 {
     match does {
         SenderDoes::Still => Ok(Turn::Still),
         SenderDoes::HardenSession(_) => settling_turn(parts, wire, end, does, sight),
         SenderDoes::Expire => settling_turn(parts, wire, end, does, sight),
-        SenderDoes::PushBind => bind_turn(parts, offers, wire, end),
+        SenderDoes::PushBind => {
+            let frame = end.machine.bind_frame(parts.stamp + 1);
+            spelling_turn(parts, offers, wire, end, does, frame)
+        }
         SenderDoes::Begin { n, count } => begin_turn(parts, offers, wire, end, n, count),
         SenderDoes::PushMsg(index) => message_turn(parts, offers, wire, end, index),
         SenderDoes::Prepare => prepare_turn(parts, end),
-        SenderDoes::PushEnd => end_turn(parts, offers, wire, end),
+        SenderDoes::PushEnd => {
+            let frame = end.machine.end_frame(parts.stamp + 1);
+            spelling_turn(parts, offers, wire, end, does, frame)
+        }
         SenderDoes::Ignore
         | SenderDoes::Bound { .. }
         | SenderDoes::Commit
@@ -116,31 +119,8 @@ fn line_turn<D: Disk, W: Wire>(
     }
 }
 
-/// The turn where nothing waits.
-#[tactic(auto, using(crate::proofs::LineLaws::own_next))]
-fn own_turn<D: Disk, W: Wire>(
-    parts: &mut NodeParts<D>,
-    offers: &mut Offers,
-    wire: &mut W,
-    end: SenderEnd,
-    sight: Sight,
-) -> Result<Turn, NoMemory>
-    requires room { 0 < parts.old.room }
-    requires acts { Acts end parts.old }
-    requires nothing { sight.seen ≡ items.Nothing }
-    requires sees { Sees (W.front_of wire.old) (Unit {0}) sight.seen sight.stamp }
-    requires low { sight.stamp ≤ 2 ^ 60 }
-    requires count { offers.old.number < 2 ^ 48 }
-    ensures { SendsTurn end.cable (λ xs. W.reads wire.old xs wire.new) (λ xs. W.writes wire.old xs wire.new) (Unit {0}) (W.was_full wire.old wire.new) offers.old offers.new parts.old result parts.new }
-{
-    match own_line(&parts.manager, &end) {
-        None => Err(NoMemory),
-        Some(does) => line_turn(parts, offers, wire, end, does, sight),
-    }
-}
-
 /// The turn, by what was seen.
-#[tactic(auto, using(crate::proofs::LineLaws::nothing_seen))]
+#[tactic(auto, using(crate::proofs::LineLaws::nothing_seen, crate::proofs::LineLaws::own_next))]
 fn sighted_turn<D: Disk, W: Wire>(
     parts: &mut NodeParts<D>,
     offers: &mut Offers,
@@ -148,41 +128,22 @@ fn sighted_turn<D: Disk, W: Wire>(
     end: SenderEnd,
     sight: Sight,
 ) -> Result<Turn, NoMemory>
-    requires room { 0 < parts.old.room }
-    requires acts { Acts end parts.old }
-    requires sees { Sees (W.front_of wire.old) (Unit {0}) sight.seen sight.stamp }
-    requires low { sight.stamp ≤ 2 ^ 60 }
+    requires may { MayTurn end parts.old }
+    requires saw { HasSeen (W.front_of wire.old) sight.seen sight.stamp }
     requires count { offers.old.number < 2 ^ 48 }
-    ensures { SendsTurn end.cable (λ xs. W.reads wire.old xs wire.new) (λ xs. W.writes wire.old xs wire.new) (sight.seen ≡ items.Nothing) (W.was_full wire.old wire.new) offers.old offers.new parts.old result parts.new }
+    ensures { SendsOver W.Wire wire.old wire.new end.cable (sight.seen ≡ items.Nothing) offers.old offers.new parts.old result parts.new }
 {
     if waits(&sight.seen) {
         return answering_turn(parts, wire, end, sight);
     }
-    own_turn(parts, offers, wire, end, sight)
-}
-
-/// The turn of an end that may act, in room that is there.
-#[tactic(auto, using(crate::proofs::WireLaws::sees_all))]
-fn seen_turn<D: Disk, W: Wire>(
-    parts: &mut NodeParts<D>,
-    offers: &mut Offers,
-    wire: &mut W,
-    end: SenderEnd,
-) -> Result<Turn, NoMemory>
-    requires room { 0 < parts.old.room }
-    requires acts { Acts end parts.old }
-    requires low { W.low wire.old }
-    requires count { offers.old.number < 2 ^ 48 }
-    ensures { SendsTurn end.cable (λ xs. W.reads wire.old xs wire.new) (λ xs. W.writes wire.old xs wire.new) ((m : W) × W.was_empty wire.old m × W.reads m [] wire.new) (W.was_full wire.old wire.new) offers.old offers.new parts.old result parts.new }
-{
-    match see(parts.alloc, wire) {
-        Err(NoMemory) => Err(NoMemory),
-        Ok(sight) => sighted_turn(parts, offers, wire, end, sight),
+    match own_line(&parts.manager, &end) {
+        None => Err(NoMemory),
+        Some(does) => line_turn(parts, offers, wire, end, does, sight),
     }
 }
 
-/// So, where its entry's room can be had.
-#[tactic(auto, using(crate::proofs::NodeLaws::room_acts))]
+/// The turn of an end that may act, where its entry's room can be had.
+#[tactic(auto, using(crate::proofs::NodeLaws::room_may, mq_turn_parts::proofs::WireLaws::has_seen))]
 fn take_turn<D: Disk, W: Wire>(
     parts: &mut NodeParts<D>,
     offers: &mut Offers,
@@ -192,12 +153,15 @@ fn take_turn<D: Disk, W: Wire>(
     requires acts { Acts end parts.old }
     requires low { W.low wire.old }
     requires count { offers.old.number < 2 ^ 48 }
-    ensures { SendsTurn end.cable (λ xs. W.reads wire.old xs wire.new) (λ xs. W.writes wire.old xs wire.new) ((m : W) × W.was_empty wire.old m × W.reads m [] wire.new) (W.was_full wire.old wire.new) offers.old offers.new parts.old result parts.new }
+    ensures { SendsOver W.Wire wire.old wire.new end.cable (FoundNothing W.Wire wire.old wire.new) offers.old offers.new parts.old result parts.new }
 {
     if parts.reserve(1).is_err() {
         return Err(NoMemory);
     }
-    seen_turn(parts, offers, wire, end)
+    match see(parts.alloc, wire) {
+        Err(NoMemory) => Err(NoMemory),
+        Ok(sight) => sighted_turn(parts, offers, wire, end, sight),
+    }
 }
 
 /// The sender end of a cable, at a manager that is up.
@@ -248,7 +212,7 @@ fn turn_aside<D: Disk, W: Wire>(
     requires low { W.low wire.old }
     requires count { offers.old.number < 2 ^ 48 }
     ensures node { IsNode parts.new }
-    ensures turn { EndTurn (actors.Sender cable) (λ xs. W.reads wire.old xs wire.new) (λ xs. W.writes wire.old xs wire.new) ((m : W) × W.was_empty wire.old m × W.reads m [] wire.new) (W.was_full wire.old wire.new) offers.old offers.new parts.old result parts.new }
+    ensures turn { EndsOver W.Wire wire.old wire.new (actors.Sender cable) offers.old offers.new parts.old result parts.new }
 {
     match parts.set_aside() {
         Err(NoMemory) => Err(NoMemory),

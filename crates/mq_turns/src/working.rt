@@ -2,21 +2,19 @@
 ghost use Rattle.std.specs.Prelude.{◌≡◌};
 ghost use Rattle.mq_spec_manager.specs.Agents.{IsUp};
 ghost use Rattle.mq_spec_node.specs.Words.{doubted, settle_parts, settle_parts_if};
-ghost use Rattle.mq_sync.specs.Settlement.{is_commit};
-ghost use Rattle.mq_turns.specs.Turns.{MadeOr};
+ghost use Rattle.mq_turn_parts.specs.Turns.{MadeOr};
 ghost use Rattle.mq_turns.specs.Sends.{Works, all_parts, sender_parts};
 ghost use Rattle.mq_sender.specs.declared.turns.SenderDoes.TheVariants as does_what;
 
 use crate::asking::{has_seized, may_begin, may_settle};
-use crate::parting::{expired, hardened, leave_if, nothing_done};
 use mq_base::NoMemory;
 use mq_calls::Note;
 use mq_disk::Disk;
-use mq_events::{NodeParts, Told};
-use mq_manager::Manager;
 use mq_own::SenderEnd;
 use mq_sender::{Sender, SenderDoes};
 use mq_sync::{Settle, Unit};
+use mq_turn_parts::below::{Manager, NodeParts, Told};
+use mq_turn_parts::{expired, hardened, is_commit, leave_if, nothing_done};
 use std::alloc::Global;
 
 /// The unit in doubt, as a machine knows it.
@@ -51,16 +49,6 @@ fn settle<D: Disk>(
             operator: false,
         },
     )
-}
-
-/// Whether the batch is committed.
-pub fn is_commit(settle: Settle) -> bool
-    ensures { result ≡ is_commit settle }
-{
-    match settle {
-        Settle::Commit => true,
-        Settle::Backout => false,
-    }
 }
 
 fn settle_if<D: Disk>(
@@ -143,7 +131,7 @@ fn act<D: Disk>(
 /// # Errors
 ///
 /// No memory; nothing has changed. So it is too where the manager has not what the end knows of it, which never comes.
-#[tactic(auto, using(crate::proofs::TimeLaws::made_left, crate::proofs::RunLaws::stays_up))]
+#[tactic(auto, using(mq_turn_parts::proofs::TimeLaws::made_left, mq_turn_parts::proofs::RunLaws::stays_up))]
 fn work<D: Disk>(
     alloc: Global,
     manager: &mut Manager<D>,

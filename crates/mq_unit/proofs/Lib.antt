@@ -1,1 +1,2 @@
 pub mod UnitLaws
+pub mod from_record

@@ -6,16 +6,14 @@ use Rattle.std.proofs.lemmas.List.{length-append}
 use Rattle.std.proofs.Math.Seq.{take-append_seam}
 use Rattle.std.proofs.lemmas.List.Sums.{sum_by-cons, sum_by_push}
 use Rattle.std.proofs.lemmas.List.Recursion.{is_count_by}
-use Rattle.mq_calls.specs.declared.deltas.Did.{Did}
-use Rattle.mq_calls.specs.declared.state.Item.{Item}
-use Rattle.mq_calls.specs.declared.state.Item.TheVariants.{Put, Take}
-use Rattle.mq_calls.specs.Words.{Message, Dest, is_persistent, item_bytes, put_bytes, add_size, route_size, unit_need, with_head}
-use Rattle.mq_calls.specs.declared.records.Add.{Add}
-use Rattle.mq_calls.specs.declared.records.Remove.{Remove}
+use Rattle.mq_record.specs.from_calls.{Add, Did, Item, Remove}
+use Rattle.mq_record.specs.from_calls.ItemVariants.{Put, Take}
+use Rattle.mq_record.specs.from_calls.Words.{Message, Dest, is_persistent, item_bytes, put_bytes, add_size, route_size, unit_need, with_head}
 use Rattle.mq_spec_manager.specs.Units.{adds_of, removes_of, record_of, removed_item, placed_did, released_did}
 use Rattle.mq_record.specs.Room.{Buffered, with_piece}
 use Rattle.mq_record.specs.Records.{unit_front, record_bytes, add_bytes, remove_bytes, IsAdd, IsRemove}
 use Rattle.mq_record.proofs.SizeLaws.{add_whole, remove_whole}
+pub use Rattle.mq_record.proofs.RoomLaws.{with_two}
 use Rattle.mq_unit.specs.Told.{Telling, told_all}
 use Rattle.mq_unit.specs.Forced.{items_bytes, unit_record, is_add, is_remove, adds_size, adds_bytes, removes_bytes, need_of, ItemCanBeForced, CanBeForced, IsKept}
 
@@ -90,12 +88,6 @@ pub parts_fit : (items : List Item) (n : ℕ) → 9 + adds_size items + 65 * len
 parts_fit items n lt = (omega (arith, adds_at_least (adds_of items), lt), omega (arith, lt))
 
 -- ---- pieces that are put one behind the other
-
-with_two : (x y : List ℕ) (b : Buffered) → with_piece y (with_piece x b) ≡ with_piece (x ++ y) b
-with_two x y b =
-    let bytes : (b.bytes ++ x) ++ y ≡ b.bytes ++ (x ++ y) = append_assoc b.bytes x y in
-    let room : b.room - length x - length y ≡ b.room - length (x ++ y) = omega (arith, length-append x y) in
-    λ i. record { bytes = bytes i; room = room i }
 
 adds_cons : (item : Item) (items : List Item) → adds_of (item ∷ items) ≡ adds_of (item ∷ []) ++ adds_of items
 adds_cons (Put queue m) items = by (is_persistent m)
@@ -202,7 +194,7 @@ remove_put items i start b c item lt is put remove s =
 
 -- ---- what ends tell
 
-told_two : (x y : List Did) (t : Telling) → told_all y (told_all x t) ≡ told_all (x ++ y) t
+pub told_two : (x y : List Did) (t : Telling) → told_all y (told_all x t) ≡ told_all (x ++ y) t
 told_two x y t =
     let dids : (t.dids ++ x) ++ y ≡ t.dids ++ (x ++ y) = append_assoc t.dids x y in
     let room : t.room - length x - length y ≡ t.room - length (x ++ y) = omega (arith, length-append x y) in

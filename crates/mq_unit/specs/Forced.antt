@@ -1,11 +1,10 @@
 -- What a unit forces into the log at its end.
 use Rattle.std.specs.Prelude.{◌≡◌, ℕ, ◌+◌, ◌<◌, ◌≤◌, ◌^◌, Bool, true, false, List, [], length, sum_by, Option, Some, None}
 use Rattle.std.specs.List.{AllByRecursion, flat_map}
-use Rattle.mq_calls.specs.Words.{is_persistent, item_bytes, add_size, need}
-use Rattle.mq_calls.specs.declared.state.Item.{Item}
-use Rattle.mq_calls.specs.declared.records.LogRecord.{LogRecord}
-use Rattle.mq_calls.specs.declared.records.LogRecord.TheVariants as records
-use Rattle.mq_calls.specs.declared.state.Item.TheVariants.{Put, Take}
+use Rattle.mq_record.specs.from_calls.Words.{is_persistent, item_bytes, add_size, need}
+use Rattle.mq_record.specs.from_calls.{Item, LogRecord}
+use Rattle.mq_record.specs.from_calls.LogRecordVariants as records
+use Rattle.mq_record.specs.from_calls.ItemVariants.{Put, Take}
 use Rattle.mq_spec_manager.specs.Units.{adds_of, removes_of}
 use Rattle.mq_record.specs.Records.{CanBeKept, add_bytes, remove_bytes}
 use Rattle.mq_unit.specs.Told.{Telling}

@@ -1,6 +1,6 @@
 -- What a call did, and for how much more of it there is room.
 use Rattle.std.specs.Prelude.{ℕ, ◌-◌, List, [], ◌∷◌, ◌++◌, length}
-use Rattle.mq_calls.specs.declared.deltas.Did.{Did}
+use Rattle.mq_record.specs.from_calls.{Did}
 
 pub record Telling : Type 0 where
   pub dids : List Did

@@ -5,8 +5,7 @@ ghost use Rattle.std.specs.List.{flat_map};
 ghost use Rattle.mq_spec_manager.specs.Units.{removed_item, placed_did, released_did};
 ghost use Rattle.mq_unit.specs.Told.{told, told_all};
 
-use mq_base::{Items, NoMemory};
-use mq_calls::{Delta, Did, Item, Why};
+use mq_record::below::{Delta, Did, Item, Items, NoMemory, Why};
 use std::alloc::Global;
 use std::marker::Model;
 

@@ -1,8 +1,8 @@
 //! What a unit needs of the log.
 
 ghost use Rattle.std.specs.Prelude.{◌≡◌, List};
-ghost use Rattle.mq_calls.specs.declared.state.Item.{Item};
-ghost use Rattle.mq_calls.specs.Words.{unit_need};
+ghost use Rattle.mq_record.specs.from_calls.{Item};
+ghost use Rattle.mq_record.specs.from_calls.Words.{unit_need};
 ghost use Rattle.mq_spec_manager.specs.Units.{adds_of, removes_of, record_of};
 ghost use Rattle.mq_unit.specs.Forced.{need_of};
 

@@ -1,6 +1,7 @@
 //! Units of work: uncommitted puts and held rows, with the room that the unit's end needs.
 #![tactic(auto)]
 
+pub mod below;
 mod effects;
 mod laws;
 mod record;

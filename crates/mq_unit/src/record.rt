@@ -2,16 +2,15 @@
 
 ghost use Rattle.std.specs.Prelude.{◌≡◌, ◌-◌, ◌<◌, ◌≤◌, ◌^◌, ◌*◌, true, [], ◌∷◌, length, count_by, IfSome};
 ghost use Rattle.std.specs.List.{AllByRecursion};
-ghost use Rattle.mq_queue.specs.Rows.{is_persistent};
-ghost use Rattle.mq_frame.specs.Frames.{HasWords};
-ghost use Rattle.mq_calls.specs.Words.{item_bytes, put_bytes, record_size};
+ghost use Rattle.mq_record.specs.from_queue.Rows.{is_persistent};
+ghost use Rattle.mq_record.specs.from_frame.Frames.{HasWords};
+ghost use Rattle.mq_record.specs.from_calls.Words.{item_bytes, put_bytes, record_size};
 ghost use Rattle.mq_spec_manager.specs.Units.{adds_of, removes_of};
 ghost use Rattle.mq_record.specs.Records.{record_bytes, IsAdd, IsRemove, IsRecord};
 ghost use Rattle.mq_record.specs.Room.{with_piece};
 ghost use Rattle.mq_unit.specs.Forced.{unit_record, is_add, is_remove, adds_size, adds_bytes, removes_bytes, ItemCanBeForced, CanBeForced};
 
-use mq_calls::Item;
-use mq_message::Message;
+use mq_record::below::{Item, Message};
 use mq_record::{Buffer, unit_front};
 
 /// Whether a message is persistent.

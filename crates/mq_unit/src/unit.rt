@@ -1,7 +1,7 @@
 //! The items of a unit of work.
 
 ghost use Rattle.std.specs.Prelude.{◌≡◌, ◌+◌, ◌-◌, ◌<◌, ◌≤◌, ◌^◌, ◌↔◌, IsTrue, [], ◌∷◌, ◌++◌, length, take, is_some, OnOk, OnErr};
-ghost use Rattle.mq_calls.specs.Words.{unit_need, more_need, record_size};
+ghost use Rattle.mq_record.specs.from_calls.Words.{unit_need, more_need, record_size};
 ghost use Rattle.mq_spec_manager.specs.Units.{adds_of, removes_of, record_of};
 ghost use Rattle.mq_record.specs.Records.{record_bytes, IsRecord};
 ghost use Rattle.mq_record.specs.Room.{with_piece};
@@ -9,9 +9,8 @@ ghost use Rattle.mq_unit.specs.Forced.{unit_record, IsEnded};
 
 use crate::effects::Effects;
 use crate::record::{can_be_forced, item_bytes, put_unit};
-use mq_base::{Items, NoMemory};
-use mq_calls::Item;
 use mq_record::Buffer;
+use mq_record::below::{Item, Items, NoMemory};
 use std::alloc::Global;
 use std::marker::Model;
 
@@ -29,7 +28,7 @@ pub struct Unit {
 
 impl Model for Unit {
     ghost use Rattle.std.specs.Prelude.{List};
-    ghost use Rattle.mq_calls.specs.declared.state.Item.{Item};
+    ghost use Rattle.mq_record.specs.from_calls.{Item};
     ghost use Rattle.mq_unit.specs.Forced.{IsKept};
 
     ghost Value = { List Item };

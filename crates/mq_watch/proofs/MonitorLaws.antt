@@ -17,7 +17,7 @@ use Rattle.mq_calls.specs.declared.state.Handle.{Handle}
 use Rattle.mq_spec_manager.specs.Words.{connected, for_connection, for_handle, get_found, get_handle, get_scanned, get_tests, get_up, got, got_answer, is_left, is_too_long, mqget, queue_at, room_tests, scanned, with_row, expired_parts}
 use Rattle.mq_spec_node.specs.Terms.{Call, Choice, Runs, NoMemory, Stopped, Entry, Got, Hconn, Hobj, Part, Plain, Reason, Reply, Step, Refuse, Do}
 use Rattle.mq_spec_node.specs.Words.{CanCome, IsReplayed, Monitor, Node, Own, begins, call_of, done, get_deed, gets_nothing, monitor_deed, monitor_call, monitor_get, monitor_idle, monitor_in, node_of, told}
-use Rattle.mq_law_counts.specs.Counts.{IsCountedCall}
+use Rattle.mq_events.specs.from_law_counts.Counts.{IsCountedCall}
 use Rattle.mq_events.specs.declared.outcome.Outcome.{Outcome}
 use Rattle.mq_events.specs.Outcomes.{Ends, EndsAs}
 use Rattle.mq_law_manager.proofs.ShortSteps.{tested_all}

@@ -1,2 +1,3 @@
 pub mod Looks
 pub mod Turns
+pub mod from_events

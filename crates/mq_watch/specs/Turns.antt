@@ -6,6 +6,7 @@ use Rattle.mq_history.specs.declared.calls.Actor.TheVariants as actors
 use Rattle.mq_history.specs.declared.calls.Call.TheVariants as calls
 use Rattle.mq_history.specs.declared.calls.Reply.TheVariants as replies
 use Rattle.mq_spec_node.specs.Terms.{Answer, Call, Choice, Runs, NoMemory, Stopped, Entry, Got, Hconn, Hobj, MonitorLine, Reply}
+pub use Rattle.mq_spec_node.specs.Words.{connected as connection_of}
 use Rattle.mq_spec_node.specs.Words.{Monitor, begins, is_opened, is_script, is_trigger, monitor_get, monitor_idle, monitor_next, script_appl, shared}
 use Rattle.mq_events.specs.States.{NodeState, node_in}
 use Rattle.mq_events.specs.Events.{Adds, Stays}
@@ -68,11 +69,6 @@ Turns k old (Ok monitors.Idle) new = Rests k old new
 Turns k old (Ok (monitors.Started script)) new = Gets k (Some script) old new
 Turns k old (Ok monitors.Got) new = Gets k None old new
 Turns k old (Err e) new = Stays old new
-
--- the connection that a reply gives
-abbrev pub connection_of : Reply → Option Hconn
-connection_of (replies.Connected (answers.Ok hc)) = Some hc
-connection_of _ = None
 
 -- A monitor of that number and line connected, and was given this; it opened its queue, or not. Where there was no memory, nothing has
 -- changed.

@@ -2,6 +2,7 @@
 #![tactic(auto)]
 
 mod beginning;
+pub mod below;
 mod getting;
 mod looking;
 mod watching;

@@ -1,7 +1,6 @@
 //! Whether a monitor's get would find a message that fits, seen without a change.
 ghost use Rattle.std.specs.Prelude.{◌≡◌, find, length, option_copied};
 ghost use Rattle.mq_heads.specs.Headers.{xqh_bytes};
-ghost use Rattle.mq_calls.specs.Reads.{is_past};
 ghost use Rattle.mq_spec_manager.specs.Heads.{xqh_of};
 ghost use Rattle.mq_spec_manager.specs.Words.{length_of};
 ghost use Rattle.mq_core.specs.Views.{plain_of};
@@ -15,21 +14,11 @@ use mq_fill::queue_at;
 use mq_handles::Seat;
 use mq_heads::{Xqh, xqh_to_bytes};
 use mq_message::{Dest, Md, Message};
-use mq_place::LocalRows;
+use mq_place::{LocalRows, is_past};
 use mq_queue::{Queue, Row};
 
 /// The room of a monitor's get, in bytes.
 pub(crate) const ROOM: u64 = 4_194_304;
-
-/// Whether the deadline is there and has come.
-fn is_past(moment: u64, deadline: Option<u64>) -> bool
-    ensures { result ≡ is_past moment deadline }
-{
-    match deadline {
-        None => false,
-        Some(deadline) => deadline <= moment,
-    }
-}
 
 /// Whether a row is free and hasn't expired.
 fn is_fresh(moment: u64, row: &Row) -> bool

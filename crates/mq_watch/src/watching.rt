@@ -4,16 +4,16 @@ ghost use Rattle.mq_history.specs.declared.calls.Call.TheVariants as calls;
 ghost use Rattle.mq_spec_node.specs.Words.{Own, is_live, is_opened, monitor_live, node_of, script_appl, shared};
 ghost use Rattle.mq_events.specs.Events.{MayAct};
 ghost use Rattle.mq_events.specs.States.{IsServed, last_entry, node_in};
-ghost use Rattle.mq_watch.specs.Turns.{Connects, Opens, connection_of};
+ghost use Rattle.mq_watch.specs.Turns.{Connects, Opens};
 
 use crate::getting::monitor_in;
 use mq_base::{Label, NoMemory, QName};
-use mq_calls::{Answer, Appl, Hconn, Input, Open};
+use mq_calls::{Answer, Hconn, Input, Open};
 use mq_core::Core;
 use mq_disk::Disk;
 use mq_events::{Node, last_entry};
 use mq_history::{Actor, Call, Entry, MonitorLine, Reply};
-use mq_lines::appl_name;
+use mq_lines::{connected, script_appl};
 use mq_own::Monitor;
 
 /// The last entry of a node's history.
@@ -21,15 +21,6 @@ fn last_of<D: Disk>(node: &Node<D>) -> Option<&Entry>
     ensures { option_copied result ≡ last_entry node.now.history.entries }
 {
     last_entry(node.entries())
-}
-
-fn connection_of(reply: &Reply) -> Option<Hconn>
-    ensures { result ≡ connection_of reply.now }
-{
-    match reply {
-        Reply::Connected(Answer::Ok(hc)) => Some(*hc),
-        _ => None,
-    }
 }
 
 fn is_opened(reply: &Reply) -> bool
@@ -52,22 +43,12 @@ fn shared() -> Open
     }
 }
 
-/// A monitor connects by its label.
-fn appl_of(label: &Label) -> Appl
-    ensures { result ≡ script_appl label.now }
-{
-    Appl {
-        name: appl_name(label),
-        user: [b' '; 12],
-    }
-}
-
 fn connect_call(line: &MonitorLine) -> Call
     ensures { result ≡ calls.Mqconn [] (script_appl line.now.label) }
 {
     Call::Mqconn {
         qmgr: QName::blank(),
-        appl: appl_of(&line.label),
+        appl: script_appl(&line.label),
     }
 }
 
@@ -126,7 +107,7 @@ pub fn connect<D: Disk>(
         // Such a call never waits.
         Ok(_) => match last_of(node) {
             None => unreachable!(),
-            Some(entry) => Ok(connection_of(&entry.reply)),
+            Some(entry) => Ok(connected(&entry.reply)),
         },
     }
 }

@@ -9,8 +9,8 @@ use Rattle.mq_cable.specs.declared.item.Item.{Item}
 use Rattle.mq_cable.specs.Faults.{Offer}
 use Rattle.mq_frame.specs.declared.frame.Frame.{Frame}
 use Rattle.mq_history.specs.declared.scenario.CableLine.{CableLine}
-use Rattle.mq_spec_node.specs.Terms.{Actor, Entry}
-use Rattle.mq_spec_node.specs.Words.{by, is_receiver, is_sender, item_if, items_of}
+use Rattle.mq_spec_network.specs.from_spec_node.Terms.{Actor, Entry}
+use Rattle.mq_spec_network.specs.from_spec_node.Words.{by, is_receiver, is_sender, item_if, items_of}
 use Rattle.mq_spec_network.specs.Cables.{is_popped, pops_of}
 use Rattle.mq_spec_network.specs.Turns.{Network, does}
 use Rattle.mq_ways.specs.Ways.{AreNew, CableState, IsCableAt, IsNew, IsQuiet, IsQuietEntry}

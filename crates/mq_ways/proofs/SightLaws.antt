@@ -12,8 +12,8 @@ use Rattle.mq_frame.specs.declared.frame.Seen.{Seen}
 use Rattle.mq_frame.specs.declared.frame.Seen.TheVariants as items
 use Rattle.mq_frame.specs.Sight.{Shows}
 use Rattle.mq_frame.proofs.Streams.{one_sight}
-use Rattle.mq_spec_node.specs.Terms.{Entry}
-use Rattle.mq_spec_node.specs.Words.{item_if, items_of}
+use Rattle.mq_spec_network.specs.from_spec_node.Terms.{Entry}
+use Rattle.mq_spec_network.specs.from_spec_node.Words.{item_if, items_of}
 use Rattle.mq_spec_network.specs.Cables.{Lying, lying, made, offered_by, offered_if, pops_of, spoiled}
 use Rattle.mq_spec_network.specs.Turns.{waiting}
 use Rattle.mq_wires.specs.Wires.{Sees, ShowsItem}

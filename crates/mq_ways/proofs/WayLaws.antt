@@ -12,8 +12,8 @@ use Rattle.mq_cable.specs.Lists.{AllLow}
 use Rattle.mq_cable.specs.Offers.{HasTaken}
 use Rattle.mq_cable.proofs.MadeLaws.{each_made, one_more}
 use Rattle.mq_frame.specs.declared.frame.Frame.{Frame}
-use Rattle.mq_spec_node.specs.Terms.{Entry}
-use Rattle.mq_spec_node.specs.Words.{item_if, item_of, items_of}
+use Rattle.mq_spec_network.specs.from_spec_node.Terms.{Entry}
+use Rattle.mq_spec_network.specs.from_spec_node.Words.{item_if, item_of, items_of}
 use Rattle.mq_spec_network.specs.Cables.{is_popped, pops_of}
 use Rattle.mq_ways.specs.Ways.{IsNew, IsWay, WayState}
 

@@ -9,8 +9,8 @@ use Rattle.mq_frame.specs.declared.frame.Frame.{Frame}
 use Rattle.mq_frame.specs.Frames.{IsFrame}
 use Rattle.mq_frame.specs.Sight.{Shows}
 use Rattle.mq_wires.specs.Wires.{HasStamp}
-use Rattle.mq_spec_node.specs.Terms.{Actor, Entry}
-use Rattle.mq_spec_node.specs.Words.{by, is_receiver, is_sender, items_of}
+use Rattle.mq_spec_network.specs.from_spec_node.Terms.{Actor, Entry}
+use Rattle.mq_spec_network.specs.from_spec_node.Words.{by, is_receiver, is_sender, items_of}
 use Rattle.mq_history.specs.declared.scenario.CableLine.{CableLine}
 use Rattle.mq_spec_network.specs.Cables.{Lying, is_popped, pops_of}
 use Rattle.mq_spec_network.specs.Turns.{Network}

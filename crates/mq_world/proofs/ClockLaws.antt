@@ -14,10 +14,10 @@ use Rattle.mq_objects.specs.Names.{locals_of}
 use Rattle.mq_spec_node.specs.Node.{Node}
 use Rattle.mq_spec_node.specs.Terms.{Acted, Actor, Entry}
 use Rattle.mq_spec_node.specs.Words.{Surroundings, event, is_spent, opening_node, state_of, trigger_deed, trigger_deed_of, where_up}
-use Rattle.mq_events.specs.States.{NodeState, IsKept, IsServed, node_in, value_of}
-use Rattle.mq_events.specs.Events.{ActsAs, Adds}
-use Rattle.mq_events.proofs.ReplayLaws.{after_more}
-use Rattle.mq_acts.proofs.ServeLaws.{serves_none}
+use Rattle.mq_watch.specs.from_events.States.{NodeState, IsKept, IsServed, node_in, value_of}
+use Rattle.mq_watch.specs.from_events.Events.{ActsAs, Adds}
+use Rattle.mq_watch.proofs.from_events.ReplayLaws.{after_more}
+use Rattle.mq_shared.proofs.from_acts.ServeLaws.{serves_none}
 use Rattle.mq_nodes.specs.declared.nodes.Stop.{Stop}
 use Rattle.mq_nodes.specs.Told.{later}
 use Rattle.mq_world.specs.Settling.{IsOf, NodeDoes, ended}

@@ -8,14 +8,14 @@ use Rattle.mq_frame.specs.declared.frame.Seen.{Seen}
 use Rattle.mq_history.specs.declared.calls.Actor.{Actor}
 use Rattle.mq_history.specs.declared.calls.Call.TheVariants as calls
 use Rattle.mq_spec_node.specs.Deeds.{Deed}
-use Rattle.mq_events.specs.States.{NodeState}
+use Rattle.mq_watch.specs.from_events.States.{NodeState}
 use Rattle.mq_nodes.specs.declared.nodes.Stop.{Stop}
 use Rattle.mq_nodes.specs.declared.nodes.Stop.TheVariants as stops
-use Rattle.mq_turns.specs.declared.telling.Turn.{Turn}
-use Rattle.mq_turns.specs.declared.telling.Turn.TheVariants as turns
-use Rattle.mq_turns.specs.Unseen.{Empty, EndTurn, IsUnseen, Pushes, Rests, turn_deed}
-use Rattle.mq_turns.specs.Wired.{Untaken}
-use Rattle.mq_turns.proofs.WireLaws.{turn_widened}
+use Rattle.mq_shared.specs.from_turn_parts.{Turn}
+use Rattle.mq_shared.specs.from_turn_parts.TurnVariants as turns
+use Rattle.mq_shared.specs.from_turn_parts.Unseen.{Empty, EndTurn, IsUnseen, Pushes, Rests, turn_deed}
+use Rattle.mq_shared.specs.from_turn_parts.Wired.{Untaken}
+use Rattle.mq_shared.proofs.from_turn_parts.WireLaws.{turn_widened}
 use Rattle.mq_world.specs.Ends.{EndOn, IsBare, IsFilled, Passes, Reads, SideTurn, Sides, Writes}
 use Rattle.mq_world.specs.Settling.{Settles}
 use Rattle.mq_world.proofs.NodeLaws.{did_then, stays_so}

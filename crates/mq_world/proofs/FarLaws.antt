@@ -19,10 +19,10 @@ use Rattle.mq_nodes.specs.Pumps.{TurnIn}
 use Rattle.mq_nodes.specs.Told.{DoesOrNot}
 use Rattle.mq_nodes.specs.declared.nodes.Stop.{Stop}
 use Rattle.mq_ways.specs.Ways.{CableState, IsQuietEntry}
-use Rattle.mq_events.specs.States.{NodeState, node_in}
-use Rattle.mq_events.specs.Events.{MayAct}
+use Rattle.mq_watch.specs.from_events.States.{NodeState, node_in}
+use Rattle.mq_watch.specs.from_events.Events.{MayAct}
 use Rattle.mq_world.specs.Ends.{EndOn, Passes, Sides, StaysStill, far_sides}
-use Rattle.mq_split.specs.Facing.{IsJoined}
+use Rattle.mq_shared.specs.from_split.Facing.{IsJoined}
 use Rattle.mq_world.specs.Worlds.{IsNetwork, NetState, course_in, history_in, with_cable, with_node}
 use Rattle.mq_shared.proofs.DeedLaws.{a_receiver}
 use Rattle.mq_world.proofs.ListLaws.{itself, some_is}

@@ -5,7 +5,7 @@ use Rattle.mq_history.specs.declared.calls.Actor.TheVariants as actors
 use Rattle.mq_history.specs.declared.calls.Call.TheVariants as calls
 use Rattle.mq_spec_node.specs.Terms.{Entry, Hconn, MonitorLine}
 use Rattle.mq_spec_node.specs.Words.{is_opened, script_appl, shared}
-use Rattle.mq_events.specs.States.{NodeState}
+use Rattle.mq_watch.specs.from_events.States.{NodeState}
 use Rattle.mq_handle.specs.Turns.{Idles, Tries}
 use Rattle.mq_watch.specs.Turns.{ConnectsTo, Gets, OpensQueue, Rests, connection_of}
 use Rattle.mq_nodes.specs.declared.nodes.Monitored.{Monitored}

@@ -7,11 +7,11 @@ use Rattle.mq_history.specs.Scenarios.{IsCable}
 use Rattle.mq_spec_network.specs.Turns.{Network, cable_idle, idle_from, is_idle}
 use Rattle.mq_nodes.specs.Pumps.{AllStill}
 use Rattle.mq_steps.proofs.PartLaws.{at_it}
-use Rattle.mq_events.specs.States.{NodeState}
+use Rattle.mq_watch.specs.from_events.States.{NodeState}
 use Rattle.mq_ways.specs.Ways.{CableState}
 use Rattle.mq_idle.specs.Sights.{IsSightOf}
-use Rattle.mq_idle.proofs.StillLaws.{still_is_idle}
-use Rattle.mq_split.specs.Facing.{IsJoined}
+use Rattle.mq_idle.proofs.StillLaws.{still_is_idle, all_idle as all_from}
+use Rattle.mq_shared.specs.from_split.Facing.{IsJoined}
 use Rattle.mq_world.specs.Worlds.{IsNetwork, NetState, course_in, histories_in}
 use Rattle.mq_world.proofs.ListLaws.{some_is, there}
 use Rattle.mq_world.proofs.SeenLaws.{node_there}
@@ -97,12 +97,6 @@ one_up j i = omega arith
 
 from_zero : (i : ℕ) → i ≡ 0 + i
 from_zero i = omega arith
-
-all_from : (w : Network) (cs : List CableLine) (j : ℕ) → ((i : ℕ) (l : CableLine) → slice_get cs i ≡ Some l → cable_idle w (j + i) l ≡ true) → idle_from w j cs ≡ true
-all_from w [] j h = refl
-all_from w (c ∷ cs) j h =
-    both (cable_idle w j c) (idle_from w (suc j) cs) (subst (λ (n : ℕ). cable_idle w n c ≡ true) (nothing_more j) (h 0 c refl))
-    (all_from w cs (suc j) (λ i l at. subst (λ (n : ℕ). cable_idle w n l ≡ true) (one_up j i) (h (suc i) l at)))
 
 not_from : (w : Network) (cs : List CableLine) (j i : ℕ) (l : CableLine) → slice_get cs i ≡ Some l → cable_idle w (j + i) l ≡ false → idle_from w j cs ≡ false
 not_from w [] j i l at e = absurd cc

@@ -25,9 +25,9 @@ use Rattle.mq_nodes.specs.Course.{Course}
 use Rattle.mq_progress.specs.Course as progress
 use Rattle.mq_progress.specs.Course.{Finished}
 use Rattle.mq_progress.proofs.CourseLaws.{stands_further, stands_others}
-use Rattle.mq_events.specs.States.{NodeState, IsKept, value_of}
+use Rattle.mq_watch.specs.from_events.States.{NodeState, IsKept, value_of}
 use Rattle.mq_world.specs.Settling.{NodeDid, NodeStays}
-use Rattle.mq_split.specs.Facing.{AreJoined, IsJoined}
+use Rattle.mq_shared.specs.from_split.Facing.{AreJoined, IsJoined}
 use Rattle.mq_shared.proofs.QuietLaws.{IsSilent, behind_silent, quiet_behind}
 use Rattle.mq_world.specs.Worlds.{IsNetwork, IsNodeAt, IsScriptAt, NetState, WaitsSo, history_in, with_cable, with_node, with_script}
 use Rattle.mq_world.proofs.ListLaws.{itself, same_or_not, set_again, set_here, set_long, set_other, some_is}

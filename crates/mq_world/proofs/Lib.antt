@@ -25,3 +25,4 @@ pub mod NearLaws
 pub mod FarLaws
 pub mod OwnLaws
 pub mod PhaseLaws
+pub mod from_course

@@ -15,8 +15,8 @@ use Rattle.mq_spec_network.specs.Tasks.{moment_of}
 use Rattle.mq_spec_network.specs.Turns.{is_up_at, node_at, node_of}
 use Rattle.mq_calls.specs.Words.{is_up}
 use Rattle.mq_spec_network.specs.Steps.{Is}
-use Rattle.mq_events.specs.States.{NodeState, IsKept, IsServed, node_in, value_of}
-use Rattle.mq_events.specs.Events.{MayAct}
+use Rattle.mq_watch.specs.from_events.States.{NodeState, IsKept, IsServed, node_in, value_of}
+use Rattle.mq_watch.specs.from_events.Events.{MayAct}
 use Rattle.mq_nodes.specs.declared.nodes.Stop.{Stop}
 use Rattle.mq_nodes.specs.declared.nodes.Stop.TheVariants as stops
 use Rattle.mq_nodes.specs.Course.{Did, IsSpent, Ready, is_spent}

@@ -1,17 +1,8 @@
 -- Lists of which one value is another now.
-use Rattle.std.proofs.Common.{◌≡◌, ℕ, zero, suc, ◌<◌, Bool, true, false, List, [], ◌∷◌, length, refl, ap, arith, inl, inr}
-use Rattle.std.specs.Prelude.{◌⊎◌, ◌==◌, map, Some, option_map, slice_get, slice_set}
+use Rattle.std.proofs.Common.{◌≡◌, ℕ, zero, suc, ◌<◌, true, false, List, [], ◌∷◌, length, refl, ap, arith}
+use Rattle.std.specs.Prelude.{◌==◌, map, Some, option_map, slice_get, slice_set}
 use Rattle.std.proofs.lemmas.Bool.Decides.{nat_tests}
-
-pub same_or_not : (n m : ℕ) → (n ≡ m) ⊎ ((n == m) ≡ false)
-same_or_not n m = at_it (n == m) refl
-  where
-    are_same : (a b : ℕ) → (a == b) ≡ true → a ≡ b
-    are_same a b e = grind (arith, nat_tests)
-
-    at_it : (b : Bool) → (n == m) ≡ b → (n ≡ m) ⊎ ((n == m) ≡ false)
-    at_it true e = inl (are_same n m e)
-    at_it false e = inr e
+pub use Rattle.mq_course.proofs.CourseLaws.{same_or_not}
 
 pub itself : (n : ℕ) → (n == n) ≡ true
 itself n = grind (arith, nat_tests)

@@ -7,8 +7,8 @@ use Rattle.mq_history.specs.declared.scenario.Scenario.{Scenario}
 use Rattle.mq_history.specs.declared.calls.Entry.{Entry}
 use Rattle.mq_spec_network.specs.Lawful.{marks_at}
 use Rattle.mq_spec_network.specs.Story.{entries_at}
-use Rattle.mq_events.specs.States.{NodeState, marked}
-use Rattle.mq_events.proofs.MarkLaws.{mark_kept}
+use Rattle.mq_watch.specs.from_events.States.{NodeState, marked}
+use Rattle.mq_watch.proofs.from_events.MarkLaws.{mark_kept}
 use Rattle.mq_nodes.specs.Course.{noted}
 use Rattle.mq_course.specs.Courses.{course_of, marks_or_absent, with_mark}
 use Rattle.mq_course.proofs.CourseLaws.{all_note}

@@ -1,15 +1,14 @@
 -- An event of one node, and the trigger turns behind it.
 use Rattle.std.proofs.Common.{◌≡◌, ℕ, Bool, true, false, List, [], ◌∷◌, ◌++◌, refl, sym, ap, subst, ◌∙◌, inl, inr}
 use Rattle.std.specs.Prelude.{Result, Ok, Err, IfOk, OnOk}
-use Rattle.std.proofs.lemmas.List.{append_assoc}
 use Rattle.mq_base.specs.declared.want.NoMemory.{NoMemory}
 use Rattle.mq_spec_node.specs.Terms.{Act, Actor, Call, Entry, Hconn}
-use Rattle.mq_spec_node.specs.Words.{Grows, NodeValue, is_spent, more_entries}
+use Rattle.mq_spec_node.specs.Words.{is_spent}
 use Rattle.mq_spec_network.specs.Steps.{AreTriggers, is_cut}
-use Rattle.mq_events.specs.States.{NodeState, IsKept, IsServed, last_entry, value_of}
-use Rattle.mq_events.specs.Events.{Adds, Stays}
-use Rattle.mq_acts.specs.Asks.{Comes, IsGet}
-use Rattle.mq_acts.specs.Serving.{AreTurns, IsDone, Serves}
+use Rattle.mq_watch.specs.from_events.States.{NodeState, IsKept, IsServed, last_entry, value_of}
+use Rattle.mq_watch.specs.from_events.Events.{Adds, Stays}
+use Rattle.mq_shared.specs.from_acts.Asks.{Comes, IsGet}
+use Rattle.mq_shared.specs.from_acts.Serving.{AreTurns, IsDone, Serves}
 use Rattle.mq_nodes.specs.declared.nodes.Stop.{Stop}
 use Rattle.mq_nodes.specs.declared.nodes.Stop.TheVariants as stops
 use Rattle.mq_history.specs.declared.acts.Act.TheVariants as acts
@@ -17,10 +16,11 @@ use Rattle.mq_history.specs.declared.calls.Actor.TheVariants as actors
 use Rattle.mq_history.specs.declared.calls.Call.TheVariants as calls
 use Rattle.mq_history.specs.declared.scenario.ScriptPart.{ScriptPart}
 use Rattle.mq_progress.specs.Course.{Course, call_in}
-use Rattle.mq_acts.specs.Advances.{LineDone}
-use Rattle.mq_events.proofs.LastLaws.{adds_last}
+use Rattle.mq_shared.specs.from_acts.Advances.{LineDone}
+use Rattle.mq_watch.proofs.from_events.LastLaws.{adds_last}
 use Rattle.mq_nodes.specs.declared.nodes.Advanced.{Advanced}
 use Rattle.mq_nodes.specs.declared.nodes.Advanced.TheVariants as advances
+use Rattle.mq_shared.proofs.KeptLaws.{grows_on}
 use Rattle.mq_world.specs.Lines.{IsLineOf, LineDid, LineOn}
 use Rattle.mq_world.specs.Settling.{IsOf, NodeBroke, NodeDid, NodeDoes, NodeSays, NodeStays, Settles, SettlesSo, cut_or, ended}
 
@@ -47,13 +47,6 @@ settles {T} m value old new served spent r s done is keeps e = record {
   marks = s.marks;
   keeps = keeps;
   ends = subst (λ (x : Result T Stop). SettlesSo m x new) (sym e) (ends_so m value new served spent done is);
-}
-
--- An event, and the turns behind it.
-pub grows_on : (a b c : NodeValue) (xs ys : List Entry) → Grows a xs b → Grows b ys c → Grows a (xs ++ ys) c
-grows_on a b c xs ys g h = record {
-  given = h.given ∙ g.given;
-  history = h.history ∙ ap (more_entries ys) g.history ∙ ap (λ (es : List Entry). record a.history { entries = es }) (append_assoc a.history.entries xs ys);
 }
 
 pub did_then : {T : Type 0} (P : Entry → Type 0) (who : Actor) (what : Call) (e : Entry) (m : ℕ) (old mid new : NodeState) (r : Result T Stop) → P e → Adds who what e old mid → Settles m mid r new → NodeDid P old new

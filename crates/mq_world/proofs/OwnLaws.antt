@@ -17,9 +17,9 @@ use Rattle.mq_spec_network.specs.Story.{entries_or}
 use Rattle.mq_spec_network.specs.Tasks.{Slot}
 use Rattle.mq_spec_network.specs.Tasks.Slot.{Sends, Receives, TimesOut}
 use Rattle.mq_spec_network.specs.Turns.{Network, more_at, node_at, where_there}
-use Rattle.mq_events.specs.States.{NodeState}
-use Rattle.mq_acts.specs.Restarts.{StaysOwn}
-use Rattle.mq_acts.proofs.OwnLaws.{IsNoRestart, NoRestarts, grows_own, more_own}
+use Rattle.mq_watch.specs.from_events.States.{NodeState}
+use Rattle.mq_shared.specs.from_acts.Restarts.{StaysOwn}
+use Rattle.mq_shared.proofs.from_acts.OwnLaws.{IsNoRestart, NoRestarts, grows_own, more_own}
 use Rattle.mq_nodes.specs.declared.nodes.Advanced.{Advanced}
 use Rattle.mq_nodes.specs.declared.nodes.Monitored.{Monitored}
 use Rattle.mq_nodes.specs.declared.nodes.Monitored.TheVariants as monitors

@@ -1,27 +1,20 @@
 -- An end's turn over its cable is the turn that the network's histories tell, and what lies on the cable behind it is what they say.
-use Rattle.std.proofs.Common.{◌≡◌, ℕ, ◌+◌, ◌≤◌, ◌<◌, ◌^◌, Bool, true, false, List, [], ◌∷◌, ◌++◌, length, refl, sym, ap, subst, ◌∙◌, arith, append-nil, inl, inr}
-use Rattle.std.specs.Prelude.{◌⊎◌, ◌&&◌, ◌||◌, nat_le, max, not, Option, Some, None, is_some}
-use Rattle.std.proofs.lemmas.Bool.Decides.{nat_tests}
+use Rattle.std.proofs.Common.{◌≡◌, ℕ, ◌+◌, ◌≤◌, ◌<◌, ◌^◌, Bool, true, false, List, [], ◌∷◌, ◌++◌, length, refl, sym, ap, subst, ◌∙◌, append-nil, inl, inr}
+use Rattle.std.specs.Prelude.{◌⊎◌, ◌&&◌, max, not, Option, Some, None, is_some}
 use Rattle.mq_cable.specs.declared.fault.Fault.{Fault}
 use Rattle.mq_cable.specs.declared.item.Item.{Item}
 use Rattle.mq_cable.specs.Faults.{due_after, offered_of}
 use Rattle.mq_cable.specs.Faults.{pushed_of as bytes_pushed}
-use Rattle.mq_calls.specs.declared.choices.Choice.{Choice}
-use Rattle.mq_calls.specs.declared.choices.Choice.TheVariants.{Runs, NoMemory, Stopped}
 use Rattle.mq_frame.specs.declared.frame.Frame.{Frame}
 use Rattle.mq_frame.specs.declared.frame.Seen.{Seen}
 use Rattle.mq_frame.specs.declared.frame.Seen.TheVariants as items
 use Rattle.mq_frame.specs.Sight.{Shows}
 use Rattle.mq_frame.proofs.Streams.{one_sight}
 use Rattle.mq_history.specs.declared.calls.Actor.{Actor}
-use Rattle.mq_history.specs.declared.calls.Call.{Call}
 use Rattle.mq_history.specs.declared.calls.Call.TheVariants as calls
-use Rattle.mq_history.specs.declared.calls.Chance.{Chance}
-use Rattle.mq_history.specs.declared.calls.Chance.TheVariants as chances
 use Rattle.mq_history.specs.declared.calls.Entry.{Entry}
-use Rattle.mq_spec_node.specs.Deeds.{CanCome, Deed, done}
-use Rattle.mq_spec_node.specs.Happens.{IsDeed, IsEvent, choice_event, event}
-use Rattle.mq_spec_node.specs.Replays.{AreExtras, IsPop, IsStamp, Tells}
+use Rattle.mq_spec_node.specs.Deeds.{Deed}
+use Rattle.mq_spec_node.specs.Replays.{AreExtras, IsStamp, Tells}
 use Rattle.mq_spec_node.specs.Node.{Node}
 use Rattle.mq_spec_node.specs.Words.{by, deed_of, item_of, items_of, stamp_after}
 use Rattle.mq_spec_network.specs.Cables.{Lying, is_popped, lying}
@@ -29,14 +22,15 @@ use Rattle.mq_spec_network.specs.Steps.{TakesTurn, Turn, popped_by, pushed_of}
 use Rattle.mq_spec_network.specs.Turns.{Direction, changes, extras_of, push_refused, waiting}
 use Rattle.mq_ways.specs.Ways.{AreSeen, WayState}
 use Rattle.mq_ways.proofs.SightLaws.{way_seen}
-use Rattle.mq_events.specs.States.{NodeState, node_in}
-use Rattle.mq_events.specs.Events.{MayAct}
-use Rattle.mq_turns.specs.Unseen.{Empty, IsUnseen, Pushes, Rests, turn_deed}
-use Rattle.mq_turns.specs.Wired.{Idles, IsStill, Offered, Popped, PopsItem, Refuses}
+use Rattle.mq_watch.specs.from_events.States.{NodeState, node_in}
+use Rattle.mq_watch.specs.from_events.Events.{MayAct}
+use Rattle.mq_shared.specs.from_turn_parts.Unseen.{Empty, IsUnseen, Pushes, Rests, turn_deed}
+use Rattle.mq_shared.specs.from_turn_parts.Wired.{Idles, IsStill, Offered, Popped, PopsItem, Refuses}
 use Rattle.mq_world.specs.Ends.{IsBare, IsFilled, Passes, Reads, Sides, StaysStill, Writes}
-use Rattle.mq_split.specs.Facing.{Facing}
-use Rattle.mq_shared.proofs.DeedLaws.{Alike, IsEnd, PushesOr}
-use Rattle.mq_split.proofs.FacingLaws.{facing_offered, facing_popped, facing_unread, facing_unwritten}
+use Rattle.mq_shared.specs.from_split.Facing.{Facing}
+use Rattle.mq_shared.proofs.DeedLaws.{Alike, IsEnd}
+use Rattle.mq_shared.proofs.StampLaws.{TurnTold, popped_silent, pushed_low, turn_told}
+use Rattle.mq_shared.proofs.from_split.FacingLaws.{facing_offered, facing_popped, facing_unread, facing_unwritten}
 use Rattle.mq_world.proofs.RoomLaws.{direction, extras_found, not_refused_there, refused_there}
 
 some_is : {A : Type 0} (a b : A) → Some a ≡ Some b → a ≡ b
@@ -55,34 +49,7 @@ front_seen xs ys x rest seen e h shows = by_first ys (subst (λ (zs : List Item)
     by_first [] k = absurd k
     by_first (z ∷ zs) k = one_sight x.bytes z.seen seen k.0.shows shows
 
--- WHAT AN ENTRY TELLS of its turn: the deed came, under a choice.
-pub record Came (o : Option Deed) (pushed : Option Frame) (n : Node) : Type 0 where
-  pub deed : Deed
-  pub is : o ≡ Some deed
-  pub choice : Choice
-  pub can : CanCome deed choice n
-  pub told : pushed ≡ (done deed choice n).pushed
-
-came : (o : Option Deed) (chance : Chance) (n : Node) (pushed : Option Frame) → IsDeed o chance n → pushed ≡ (choice_event chance o n).pushed → Came o pushed n
-came None chance n pushed h e = absurd h
-came (Some d) (chances.Call choice) n pushed h e = record { deed = d; is = refl; choice = choice; can = h; told = e }
-came (Some d) (chances.Restart choice) n pushed h e = absurd h
-came (Some d) (chances.Foreign image long left) n pushed h e = absurd h
-
-silent_choice : (d : Deed) (n : Node) (choice : Choice) → d.pushed ≡ None → (done d choice n).pushed ≡ None
-silent_choice d n Runs none = none
-silent_choice d n NoMemory none = refl
-silent_choice d n (Stopped part left by) none = refl
-
--- what it offers is what its deed offers
-as_deed : (s : ℕ) (d : Deed) (n : Node) (choice : Choice) (pushed : Option Frame) → PushesOr s (Some d) n → CanCome d choice n → pushed ≡ (done d choice n).pushed → pushed ≡ d.pushed
-as_deed s d n choice pushed (inl none) can told = told ∙ silent_choice d n choice none ∙ sym none
-as_deed s d n choice pushed (inr p) can told = told ∙ ap (λ (c : Choice). (done d c n).pushed) (p.runs choice can)
-
-deed_stamp : (s : ℕ) (d : Deed) (n : Node) (f : Frame) → PushesOr s (Some d) n → d.pushed ≡ Some f → f.stamp ≡ s
-deed_stamp s d n f (inl none) is = absurd (let no_ : None ≡ Some f = sym none ∙ is in cc)
-deed_stamp s d n f (inr p) is = p.stamped f is
-
+-- DEEDS ALIKE
 alike_deed : (o p : Option Deed) (d : Deed) → Alike o p → o ≡ Some d → (d2 : Deed) × (p ≡ Some d2) × (is_some d.pushed ≡ is_some d2.pushed)
 alike_deed None p d h is = absurd cc
 alike_deed (Some a) None d h is = absurd h
@@ -105,14 +72,6 @@ some_there p f e = ap is_some e
 frame_there : (p : Option Frame) → is_some p ≡ true → (f : Frame) × (p ≡ Some f)
 frame_there None e = absurd cc
 frame_there (Some f) e = (f, refl)
-
--- an entry that popped offers nothing; a timeout neither
-popped_silent : (seen : Seen) (pushed : Option Frame) (call : Call) (actor : Actor) → IsPop seen pushed call actor → (seen ≡ items.Nothing) ⊎ (pushed ≡ None)
-popped_silent items.Nothing pushed call actor h = inl refl
-popped_silent items.Spoiled None call actor h = inr refl
-popped_silent items.Spoiled (Some f) call actor h = absurd h
-popped_silent (items.Frame g) None call actor h = inr refl
-popped_silent (items.Frame g) (Some f) call actor h = absurd h
 
 -- AN END between its two directions, as the histories tell them: `fr` are the faults of the one that it reads, `fw` of the one that it writes.
 pub record Faced (fr fw : List Fault) (mine theirs : Actor → Bool) (es os : List Entry) (a : Sides) : Type 0 where
@@ -147,26 +106,8 @@ module _ (who : Actor) (end : IsEnd who) (fr fw : List Fault) (mine theirs : Act
 
   -- THE ENTRY
   module _ (e : Entry) (t : Tells here old.stamp e) (x : Passes who a b old e) where
-    happens : IsDeed (deed e.stamp e.effect.popped) e.chance here
-    happens = subst (λ (w : Actor). IsEvent e.stamp w calls.Turn e.chance e.effect.popped here) x.is.0 (subst (λ (c : Call). IsEvent e.stamp e.actor c e.chance e.effect.popped here) x.is.1 t.event)
-
-    pushed_so : e.effect.pushed ≡ (choice_event e.chance (deed e.stamp e.effect.popped) here).pushed
-    pushed_so =
-        t.pushed
-        ∙ ap (λ (c : Call). (event e.stamp e.actor c e.chance e.effect.popped here).pushed) x.is.1
-        ∙ ap (λ (w : Actor). (event e.stamp w calls.Turn e.chance e.effect.popped here).pushed) x.is.0
-
-    comes : Came (deed e.stamp e.effect.popped) e.effect.pushed here
-    comes = came (deed e.stamp e.effect.popped) e.chance here e.effect.pushed happens pushed_so
-
-    pushes_so : PushesOr e.stamp (Some comes.deed) here
-    pushes_so = subst (λ (o : Option Deed). PushesOr e.stamp o here) comes.is (end.pushes e.stamp e.effect.popped here)
-
-    pushed_is : e.effect.pushed ≡ comes.deed.pushed
-    pushed_is = as_deed e.stamp comes.deed here comes.choice e.effect.pushed pushes_so comes.can comes.told
-
-    pub pushed_stamp : (g : Frame) → e.effect.pushed ≡ Some g → g.stamp ≡ e.stamp
-    pushed_stamp g is = deed_stamp e.stamp comes.deed here g pushes_so (sym pushed_is ∙ is)
+    told : TurnTold who here e
+    told = turn_told who here old.stamp e end t x.is.0 x.is.1
 
     -- its deed is the one of what waits
     abbrev Agrees : Type 0
@@ -175,30 +116,30 @@ module _ (who : Actor) (end : IsEnd who) (fr fw : List Fault) (mine theirs : Act
     agrees_front : (s : Seen) → e.effect.popped ≡ s → e.effect.pushed ≡ None → PopsItem (Reads a.read b.read) old.stamp s e.stamp → Agrees
     agrees_front s is none p =
         let same : seen ≡ e.effect.popped = front_seen a.read.items lies p.item b.read.items s p.read seen_lies p.shows ∙ sym is in
-        (comes.deed, ap (deed e.stamp) same ∙ comes.is, pushed_is, sym same ∙ sym (ap (popped_by seen) none))
+        (told.deed, ap (deed e.stamp) same ∙ told.is, told.pushed, sym same ∙ sym (ap (popped_by seen) none))
 
     next_stamp : e.effect.popped ≡ items.Nothing → e.stamp ≡ old.stamp + 1
     next_stamp is = subst (λ (s : Seen). IsStamp old.stamp s e.stamp) is t.stamp
 
-    deed_now : e.effect.popped ≡ items.Nothing → turn_deed who old items.Nothing ≡ Some comes.deed
-    deed_now is = ap (λ (n : ℕ). deed n items.Nothing) (sym (next_stamp is)) ∙ ap (deed e.stamp) (sym is) ∙ comes.is
+    deed_now : e.effect.popped ≡ items.Nothing → turn_deed who old items.Nothing ≡ Some told.deed
+    deed_now is = ap (λ (n : ℕ). deed n items.Nothing) (sym (next_stamp is)) ∙ ap (deed e.stamp) (sym is) ∙ told.is
 
     agrees_bare : e.effect.popped ≡ items.Nothing → a.read.items ≡ b.read.items → IsUnseen (IsBare b.read) (turn_deed who old) → Agrees
     agrees_bare is same (Empty bare) =
         let nothing : seen ≡ items.Nothing = bare_seen a.read.items lies (same ∙ bare) seen_lies in
-        (comes.deed, ap (deed e.stamp) (nothing ∙ sym is) ∙ comes.is, pushed_is, is ∙ nothing_popped e.effect.pushed ∙ ap (λ (s : Seen). popped_by s e.effect.pushed) (sym nothing))
+        (told.deed, ap (deed e.stamp) (nothing ∙ sym is) ∙ told.is, told.pushed, is ∙ nothing_popped e.effect.pushed ∙ ap (λ (s : Seen). popped_by s e.effect.pushed) (sym nothing))
       where
         nothing_popped : (p : Option Frame) → items.Nothing ≡ popped_by items.Nothing p
         nothing_popped None = refl
         nothing_popped (Some g) = refl
     agrees_bare is same (Rests none) = absurd (no_ (sym (none items.Nothing) ∙ deed_now is))
       where
-        no_ : None ≡ Some comes.deed → ⊥
+        no_ : None ≡ Some told.deed → ⊥
         no_ k = cc
     agrees_bare is same (Pushes d g pushed all) =
-        let one : d ≡ comes.deed = some_is d comes.deed (sym (all items.Nothing) ∙ deed_now is) in
-        let frame : e.effect.pushed ≡ Some g = pushed_is ∙ ap (λ (y : Deed). y.pushed) (sym one) ∙ pushed in
-        (d, ap (λ (n : ℕ). deed n seen) (next_stamp is) ∙ all seen, pushed_is ∙ ap (λ (y : Deed). y.pushed) (sym one), is ∙ sym (ap (popped_by seen) frame))
+        let one : d ≡ told.deed = some_is d told.deed (sym (all items.Nothing) ∙ deed_now is) in
+        let frame : e.effect.pushed ≡ Some g = told.pushed ∙ ap (λ (y : Deed). y.pushed) (sym one) ∙ pushed in
+        (d, ap (λ (n : ℕ). deed n seen) (next_stamp is) ∙ all seen, told.pushed ∙ ap (λ (y : Deed). y.pushed) (sym one), is ∙ sym (ap (popped_by seen) frame))
 
     silent_pop : (s : Seen) → e.effect.popped ≡ s → (s ≡ items.Nothing → ⊥) → e.effect.pushed ≡ None
     silent_pop s is some = by_pop (popped_silent e.effect.popped e.effect.pushed e.call e.actor t.popped)
@@ -259,17 +200,6 @@ module _ (who : Actor) (end : IsEnd who) (fr fw : List Fault) (mine theirs : Act
       same_way : (c d : WayState) → d.offers ≡ c.offers → d.items ≡ c.items → d ≡ c
       same_way c d offers lie = ap (λ (xs : List Item). record { items = xs; offers = d.offers }) lie ∙ ap (λ o. record { items = c.items; offers = o }) offers
 
-      low_stamp : e.effect.popped ≡ items.Nothing → e.stamp ≤ 2 ^ 60
-      low_stamp is = few_stamp old.stamp e.stamp (length old.history.entries) may (next_stamp is)
-        where
-          few_stamp : (n s k : ℕ) → (nat_le (2 ^ 48) k || nat_le (2 ^ 60) n) ≡ false → s ≡ n + 1 → s ≤ 2 ^ 60
-          few_stamp n s k h e2 = by_test (nat_le (2 ^ 48) k) (nat_le (2 ^ 60) n) refl h
-            where
-              by_test : (c d : Bool) → nat_le (2 ^ 60) n ≡ d → (c || d) ≡ false → s ≤ 2 ^ 60
-              by_test true d le k2 = absurd cc
-              by_test false true le k2 = absurd cc
-              by_test false false le k2 = grind (arith, nat_tests)
-
       -- the direction that it writes
       write_by : (p : Option Frame) → e.effect.pushed ≡ p → Offered (Writes a.write b.write) (IsFilled b.write) a.write.offers p e.effect.extras b.write.offers → Facing fw mine theirs more os b.write
       write_by None is o =
@@ -277,12 +207,8 @@ module _ (who : Actor) (end : IsEnd who) (fr fw : List Fault) (mine theirs : Act
       write_by (Some g) is o =
           facing_offered fw mine theirs es os e g a.write b.write acts is low (o.0.shows o.1).0 f.write (put g e.effect.extras o).whole (o.0.offered.taken offered f.write.way.taken) o.0.offered.faults (most g e.effect.extras o)
         where
-          by_pop : (e.effect.popped ≡ items.Nothing) ⊎ (e.effect.pushed ≡ None) → e.effect.popped ≡ items.Nothing
-          by_pop (inl none) = none
-          by_pop (inr none) = absurd (let no_ : None ≡ Some g = sym none ∙ is in cc)
-
           low : g.stamp ≤ 2 ^ 60
-          low = subst (λ (n : ℕ). n ≤ 2 ^ 60) (sym (pushed_stamp g is)) (low_stamp (by_pop (popped_silent e.effect.popped e.effect.pushed e.call e.actor t.popped)))
+          low = pushed_low who old e g end may t x.is.0 x.is.1 is
 
       pub written : Facing fw mine theirs more os b.write
       written = write_by e.effect.pushed refl x.offered

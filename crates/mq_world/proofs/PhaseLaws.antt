@@ -22,7 +22,7 @@ use Rattle.mq_spec_network.specs.Turns.{node_at, node_of}
 use Rattle.mq_spec_network.proofs.Going.{same_network}
 use Rattle.mq_progress.specs.Course as progress
 use Rattle.mq_progress.specs.Course.{Stands}
-use Rattle.mq_events.specs.States.{NodeState}
+use Rattle.mq_watch.specs.from_events.States.{NodeState}
 use Rattle.mq_ways.specs.Ways.{CableState}
 use Rattle.mq_nodes.specs.declared.nodes.Stop.{Stop}
 use Rattle.mq_nodes.specs.declared.nodes.Stop.TheVariants as stops

@@ -13,8 +13,8 @@ use Rattle.mq_spec_node.specs.Words.{by, item_if, items_of}
 use Rattle.mq_spec_network.specs.Story.{entries_at}
 use Rattle.mq_steps.proofs.PartLaws.{at_it}
 use Rattle.mq_ways.specs.Ways.{CableState}
-use Rattle.mq_events.specs.States.{NodeState}
-use Rattle.mq_events.specs.Events.{MayAct}
+use Rattle.mq_watch.specs.from_events.States.{NodeState}
+use Rattle.mq_watch.specs.from_events.Events.{MayAct}
 use Rattle.mq_world.specs.Worlds.{IsNetwork, NetState, history_in, with_cable, with_node}
 use Rattle.mq_world.proofs.LiftLaws.{Asked}
 use Rattle.mq_world.proofs.ListLaws.{there}

@@ -10,8 +10,8 @@ use Rattle.mq_spec_node.specs.Words.{is_receiver, is_sender}
 use Rattle.mq_spec_network.specs.Turns.{more_at}
 use Rattle.mq_ways.specs.Ways.{CableState, IsNew, IsQuietEntry, WayState}
 use Rattle.mq_ways.proofs.WayLaws.{way_begins}
-use Rattle.mq_split.specs.Facing.{AreJoined, Facing, IsJoined}
-use Rattle.mq_split.proofs.QuietLaws.{facing_read, facing_written}
+use Rattle.mq_shared.specs.from_split.Facing.{AreJoined, Facing, IsJoined}
+use Rattle.mq_shared.proofs.from_split.QuietLaws.{facing_read, facing_written}
 
 -- where nothing was done yet
 pub facing_first : (fs : List Fault) (writer reader : Actor → Bool) (ws rs : List Entry) (d : WayState) → ws ≡ [] → rs ≡ [] → IsNew fs d → Facing fs writer reader ws rs d

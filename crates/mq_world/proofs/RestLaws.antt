@@ -9,11 +9,11 @@ use Rattle.mq_spec_node.specs.Words.{Own, Replays, Surroundings, TriggersStand, 
 use Rattle.mq_spec_network.specs.Lawful.{IsCarried}
 use Rattle.mq_spec_network.specs.Story.{entries_at}
 use Rattle.mq_core.specs.Values.{CoreValue}
-use Rattle.mq_events.specs.States.{NodeState}
+use Rattle.mq_watch.specs.from_events.States.{NodeState}
 use Rattle.mq_nodes.specs.Carried.{AllCarried}
 use Rattle.mq_world_begin.specs.Rested.{IsRested, IsRestedAt}
 use Rattle.mq_world.specs.Resting.{manager_in, own_in, rest_of}
-use Rattle.mq_split.specs.Facing.{IsJoined}
+use Rattle.mq_shared.specs.from_split.Facing.{IsJoined}
 use Rattle.mq_world.specs.Worlds.{IsNetwork, IsNodeAt, NetState, course_in, histories_in, history_in}
 use Rattle.mq_world.proofs.ListLaws.{get_map, long_map, some_is, there}
 

@@ -4,7 +4,7 @@ use Rattle.std.specs.Prelude.{map}
 use Rattle.std.proofs.lemmas.List.{map-append}
 use Rattle.mq_history.specs.declared.history.History.{History}
 use Rattle.mq_core.specs.Values.{CoreValue}
-use Rattle.mq_events.specs.Disks.{HasRisen}
+use Rattle.mq_watch.specs.from_events.Disks.{HasRisen}
 use Rattle.mq_world.specs.Resting.{AreRisen, faults_in}
 
 -- none yet

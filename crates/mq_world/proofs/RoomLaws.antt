@@ -17,8 +17,8 @@ use Rattle.mq_spec_network.specs.Turns.{Direction, due_of, extras_of, is_empty, 
 use Rattle.mq_ways.specs.Ways.{WayState}
 use Rattle.mq_ways.proofs.SightLaws.{seen_long, way_seen}
 use Rattle.mq_world.specs.Ends.{IsFilled, Writes}
-use Rattle.mq_split.specs.Facing.{Facing}
-use Rattle.mq_split.proofs.FacingLaws.{as_many_offered, due_next_long, long_append}
+use Rattle.mq_shared.specs.from_split.Facing.{Facing}
+use Rattle.mq_shared.proofs.from_split.FacingLaws.{as_many_offered, due_next_long, long_append}
 
 -- a direction as its writer sees it
 abbrev pub direction : List Fault → (writer reader : Actor → Bool) → (written read : List Entry) → Direction

@@ -16,9 +16,9 @@ use Rattle.mq_spec_network.proofs.NextLines.{plain_call}
 use Rattle.mq_progress.specs.Course as progress
 use Rattle.mq_progress.specs.Course.{call_in, next_in}
 use Rattle.mq_progress.proofs.CourseLaws.{next_here}
-use Rattle.mq_events.specs.States.{NodeState, node_in}
-use Rattle.mq_acts.specs.Advances.{IsTextLine, Keeps, NoLine}
-use Rattle.mq_events.specs.Texts.{IsTextCommand}
+use Rattle.mq_watch.specs.from_events.States.{NodeState, node_in}
+use Rattle.mq_shared.specs.from_acts.Advances.{IsTextLine, Keeps, NoLine}
+use Rattle.mq_watch.specs.from_events.Texts.{IsTextCommand}
 use Rattle.mq_nodes.specs.Texts.{LineFits}
 use Rattle.mq_nodes.specs.declared.nodes.Advanced.{Advanced}
 use Rattle.mq_nodes.specs.declared.nodes.Advanced.TheVariants as advances

@@ -14,8 +14,8 @@ use Rattle.mq_spec_network.specs.Lawful.{node_begun}
 use Rattle.mq_spec_network.specs.Steps.{none_due}
 use Rattle.mq_spec_network.specs.Story.{entries_at, entries_or}
 use Rattle.mq_spec_network.specs.Turns.{does, node_at, node_of}
-use Rattle.mq_events.specs.States.{NodeState, IsKept, IsServed, node_in, value_of}
-use Rattle.mq_events.specs.Events.{MayAct}
+use Rattle.mq_watch.specs.from_events.States.{NodeState, IsKept, IsServed, node_in, value_of}
+use Rattle.mq_watch.specs.from_events.Events.{MayAct}
 use Rattle.mq_nodes.specs.Course.{Course, Ready, has_high, is_spent}
 use Rattle.mq_course.specs.Courses.{course_of, net_of}
 use Rattle.mq_course.proofs.CourseLaws.{one_does}

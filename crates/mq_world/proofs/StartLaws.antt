@@ -22,8 +22,8 @@ use Rattle.mq_spec_node.specs.Terms.{Entry}
 use Rattle.mq_spec_node.specs.Words.{Node, Own, Surroundings, after, begun_anew, is_receiver, is_sender, node_of, opening_node, trigger_deed, trigger_deed_of}
 use Rattle.mq_spec_network.specs.Given.{log_max_or, own_at, surroundings}
 use Rattle.mq_core.specs.Values.{CoreValue}
-use Rattle.mq_events.specs.States.{NodeState, Spare}
-use Rattle.mq_events.proofs.MarkLaws.{begun_kept}
+use Rattle.mq_watch.specs.from_events.States.{NodeState, Spare}
+use Rattle.mq_watch.proofs.from_events.MarkLaws.{begun_kept}
 use Rattle.mq_world_begin.specs.Rested.{IsRestedAt, as_given}
 use Rattle.mq_world_begin.proofs.GivenLaws.{given_again}
 use Rattle.mq_history.specs.Scenarios.{IsScenario}
@@ -31,7 +31,7 @@ use Rattle.mq_history.specs.declared.scenario.MonitorLine.{MonitorLine}
 use Rattle.mq_history.specs.declared.scenario.RulesPart.{RulesPart}
 use Rattle.mq_spec_network.specs.Lawful.{marks_at}
 use Rattle.mq_spec_network.specs.Story.{entries_at, entries_or}
-use Rattle.mq_events.specs.Texts.{IsTextCommand}
+use Rattle.mq_watch.specs.from_events.Texts.{IsTextCommand}
 use Rattle.mq_nodes.specs.Texts.{AllFit}
 use Rattle.mq_course.specs.Courses.{absent, marks_or_absent}
 use Rattle.mq_progress.specs.Course as progress
@@ -39,7 +39,7 @@ use Rattle.mq_progress.proofs.CourseLaws.{stands_first}
 use Rattle.mq_steps.proofs.PartLaws.{at_it}
 use Rattle.mq_ways.specs.Ways.{AreNew, CableState, IsNew}
 use Rattle.mq_ways.proofs.QuietLaws.{new_at, new_long}
-use Rattle.mq_split.specs.Facing.{IsJoined}
+use Rattle.mq_shared.specs.from_split.Facing.{IsJoined}
 use Rattle.mq_world.specs.Starting.{Starts, StartsAt, around, begun_script, begun_state, own_begun}
 use Rattle.mq_world.specs.Worlds.{IsNetwork, IsScriptAt, history_in, until_of}
 use Rattle.mq_world.proofs.ListLaws.{get_map, some_is}

@@ -24,6 +24,7 @@ use Rattle.mq_spec_node.specs.Senders.{after_timeout}
 use Rattle.mq_spec_network.specs.Cables.{is_popped}
 use Rattle.mq_spec_network.specs.Steps.{pushed_of}
 use Rattle.mq_spec_network.specs.Turns.{Direction, changes}
+use Rattle.mq_shared.proofs.StampLaws.{event_offers}
 
 -- What an entry among others tells.
 pub tells_at : (n : Node) (last : ℕ) (xs es : List Entry) (e : Entry) → Follows n last (xs ++ e ∷ es) → Tells (after n xs) (stamp_after last xs) e
@@ -73,12 +74,6 @@ timeout_pushes k n = pushes_none n n.manager.running (sender_end k n.own)
 
 pub timeout_changes : (way : Direction) (k : ℕ) (n : Node) → changes way (timeout_here k n) ≡ is_some (timeout_here k n)
 timeout_changes way k n = changes_so n way n.manager.running (sender_end k n.own)
-
--- THE ENTRY
-event_offers : (k stamp : ℕ) (chance : Chance) (seen : Seen) (n : Node) → (event stamp (actors.Sender k) calls.Timeout chance seen n).pushed ≡ None
-event_offers k stamp (chances.Call choice) seen n = offers_none n n.manager.running (sender_end k n.own) choice
-event_offers k stamp (chances.Restart choice) seen n = refl
-event_offers k stamp (chances.Foreign image length left) seen n = refl
 
 takes_none : (pushed : Option Frame) (actor : Actor) (seen : Seen) → IsPop seen pushed calls.Timeout actor → seen ≡ items.Nothing
 takes_none pushed actor items.Nothing h = refl

@@ -15,15 +15,15 @@ use Rattle.mq_spec_network.specs.Steps.{TakesTurn, popped_by, pushed_of, turn_in
 use Rattle.mq_spec_network.specs.Story.{entries_at}
 use Rattle.mq_spec_network.specs.Tasks.Slot.{TimesOut as OutOfTime}
 use Rattle.mq_spec_network.specs.Turns.{changes, deed_at, extras_of, node_at, out_way}
-use Rattle.mq_events.specs.States.{NodeState, IsKept, IsServed, node_in, value_of}
-use Rattle.mq_events.specs.Events.{Adds, Stays}
+use Rattle.mq_watch.specs.from_events.States.{NodeState, IsKept, IsServed, node_in, value_of}
+use Rattle.mq_watch.specs.from_events.Events.{Adds, Stays}
 use Rattle.mq_nodes.specs.declared.nodes.Stop.{Stop}
 use Rattle.mq_nodes.specs.declared.nodes.Stop.TheVariants as stops
 use Rattle.mq_nodes.specs.Course.{Ready}
 use Rattle.mq_nodes.specs.Pumps.{IsStill, TurnIn}
 use Rattle.mq_nodes.specs.Told.{DoesOrNot, NeverWants}
-use Rattle.mq_turns.specs.declared.telling.Turn.TheVariants as turns
-use Rattle.mq_turns.specs.Turns.{TimeoutIs, TimesOut}
+use Rattle.mq_shared.specs.from_turn_parts.TurnVariants as turns
+use Rattle.mq_shared.specs.from_turn_parts.Turns.{TimeoutIs, TimesOut}
 use Rattle.mq_world.specs.Ends.{TimeoutOn}
 use Rattle.mq_world.specs.Settling.{IsOf, NodeDid, ended}
 use Rattle.mq_world.specs.Worlds.{IsNetwork, NetState, course_in, histories_in, with_node}

@@ -11,7 +11,7 @@ use Rattle.mq_spec_node.specs.Words.{begins, is_none, is_receiver, is_script, is
 use Rattle.mq_spec_network.specs.Lawful.{handles_idle}
 use Rattle.mq_spec_network.specs.Steps.{Is, MonitorGets, handler_idle, is_watching, scripts_at, serves_nothing}
 use Rattle.mq_spec_network.specs.Turns.{node_at, where_there}
-use Rattle.mq_events.specs.States.{NodeState, node_in, value_of}
+use Rattle.mq_watch.specs.from_events.States.{NodeState, node_in, value_of}
 use Rattle.mq_nodes.specs.declared.nodes.Monitored.{Monitored}
 use Rattle.mq_nodes.specs.declared.nodes.Monitored.TheVariants as monitors
 use Rattle.mq_nodes.specs.declared.nodes.Stop.{Stop}

@@ -20,9 +20,9 @@ use Rattle.mq_nodes.specs.Told.{DoesOrNot}
 use Rattle.mq_nodes.specs.declared.nodes.Stop.{Stop}
 use Rattle.mq_nodes.specs.declared.nodes.Stop.TheVariants as stops
 use Rattle.mq_ways.specs.Ways.{CableState, IsQuietEntry}
-use Rattle.mq_events.specs.States.{NodeState, IsKept, node_in}
+use Rattle.mq_watch.specs.from_events.States.{NodeState, IsKept, node_in}
 use Rattle.mq_world.specs.Ends.{EndOn, Passes, Sides, StaysStill, far_sides, near_sides}
-use Rattle.mq_split.specs.Facing.{IsJoined}
+use Rattle.mq_shared.specs.from_split.Facing.{IsJoined}
 use Rattle.mq_shared.proofs.QuietLaws.{silent_quiet}
 use Rattle.mq_world.specs.Settling.{NodeDid, NodeStays}
 use Rattle.mq_world.specs.Worlds.{IsNetwork, NetState, course_in, history_in, with_cable, with_node}

@@ -7,13 +7,13 @@ use Rattle.mq_history.specs.declared.calls.Actor.TheVariants as actors
 use Rattle.mq_history.specs.declared.calls.Call.TheVariants as calls
 use Rattle.mq_spec_node.specs.Terms.{Actor, Entry}
 use Rattle.mq_spec_node.specs.Words.{deed_of, is_spent}
-use Rattle.mq_events.specs.States.{NodeState, IsServed, node_in, value_of}
-use Rattle.mq_events.specs.Events.{MayAct}
+use Rattle.mq_watch.specs.from_events.States.{NodeState, IsServed, node_in, value_of}
+use Rattle.mq_watch.specs.from_events.Events.{MayAct}
 use Rattle.mq_nodes.specs.declared.nodes.Stop.{Stop}
 use Rattle.mq_nodes.specs.declared.nodes.Stop.TheVariants as stops
-use Rattle.mq_turns.specs.declared.telling.Turn.{Turn}
-use Rattle.mq_turns.specs.Unseen.{EndTurn, IsUnseen, turn_deed}
-use Rattle.mq_turns.specs.Wired.{IsStill, Offered, Popped}
+use Rattle.mq_shared.specs.from_turn_parts.{Turn}
+use Rattle.mq_shared.specs.from_turn_parts.Unseen.{EndTurn, IsUnseen, turn_deed}
+use Rattle.mq_shared.specs.from_turn_parts.Wired.{IsStill, Offered, Popped}
 use Rattle.mq_ways.specs.Ways.{CableState, WayState}
 use Rattle.mq_world.specs.Settling.{IsOf, NodeDid, NodeStays}
 

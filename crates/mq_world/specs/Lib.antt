@@ -6,3 +6,7 @@ pub mod Lines
 pub mod Turning
 pub mod Ends
 pub mod Words
+pub mod from_begin
+pub mod from_course
+pub mod from_events
+pub mod from_opening

@@ -5,9 +5,9 @@ use Rattle.mq_spec_node.specs.Terms.{Entry, ScriptLine, ScriptPart}
 use Rattle.mq_spec_node.specs.Lines.Next.{Makes}
 use Rattle.mq_spec_node.specs.Words.{is_spent}
 use Rattle.mq_progress.specs.Course.{Course, Finished, call_in, next_in}
-use Rattle.mq_events.specs.States.{NodeState, IsServed, node_in, value_of}
-use Rattle.mq_events.specs.Events.{MayAct}
-use Rattle.mq_acts.specs.Advances.{LineWaits, NoLine}
+use Rattle.mq_watch.specs.from_events.States.{NodeState, IsServed, node_in, value_of}
+use Rattle.mq_watch.specs.from_events.Events.{MayAct}
+use Rattle.mq_shared.specs.from_acts.Advances.{LineWaits, NoLine}
 use Rattle.mq_nodes.specs.declared.nodes.Advanced.{Advanced}
 use Rattle.mq_nodes.specs.declared.nodes.Advanced.TheVariants as advances
 use Rattle.mq_nodes.specs.declared.nodes.Stop.{Stop}

@@ -4,8 +4,8 @@ use Rattle.mq_history.specs.declared.history.History.{History}
 use Rattle.mq_history.specs.declared.scenario.Scenario.{Scenario}
 use Rattle.mq_spec_node.specs.Words.{Own}
 use Rattle.mq_core.specs.Values.{CoreValue}
-use Rattle.mq_events.specs.Disks.{HasRisen}
-use Rattle.mq_events.specs.States.{NodeState}
+use Rattle.mq_watch.specs.from_events.Disks.{HasRisen}
+use Rattle.mq_watch.specs.from_events.States.{NodeState}
 use Rattle.mq_world_begin.specs.Rested.{RestState}
 use Rattle.mq_world.specs.Worlds.{history_in}
 

@@ -4,8 +4,8 @@ use Rattle.mq_base.specs.declared.want.NoMemory.{NoMemory}
 use Rattle.mq_spec_node.specs.Terms.{Actor, Call, Entry}
 use Rattle.mq_spec_node.specs.Words.{Grows, is_spent}
 use Rattle.mq_spec_network.specs.Steps.{AreTriggers, is_cut}
-use Rattle.mq_events.specs.States.{NodeState, IsKept, IsServed, value_of}
-use Rattle.mq_events.specs.Events.{MayAct}
+use Rattle.mq_watch.specs.from_events.States.{NodeState, IsKept, IsServed, value_of}
+use Rattle.mq_watch.specs.from_events.Events.{MayAct}
 use Rattle.mq_nodes.specs.declared.nodes.Stop.{Stop}
 use Rattle.mq_nodes.specs.declared.nodes.Stop.TheVariants as stops
 

@@ -5,8 +5,8 @@ use Rattle.mq_history.specs.declared.history.History.{History}
 use Rattle.mq_history.specs.declared.scenario.Scenario.{Scenario}
 use Rattle.mq_spec_node.specs.Words.{Own, Surroundings, begun_anew}
 use Rattle.mq_core.specs.Values.{CoreValue}
-use Rattle.mq_events.specs.States.{NodeState, IsServed, Spare}
-use Rattle.mq_events.specs.Events.{MayAct}
+use Rattle.mq_watch.specs.from_events.States.{NodeState, IsServed, Spare}
+use Rattle.mq_watch.specs.from_events.Events.{MayAct}
 use Rattle.mq_history.specs.declared.history.Mark.{Mark}
 use Rattle.mq_spec_node.specs.Words.{fresh}
 use Rattle.mq_progress.specs.Course as progress

@@ -4,8 +4,8 @@ use Rattle.mq_history.specs.declared.calls.Actor.TheVariants as actors
 use Rattle.mq_history.specs.declared.calls.Call.TheVariants as calls
 use Rattle.mq_spec_node.specs.Terms.{Entry}
 use Rattle.mq_spec_node.specs.Words.{begins, monitor_idle, monitor_next}
-use Rattle.mq_events.specs.States.{NodeState, IsServed, node_in}
-use Rattle.mq_events.specs.Events.{MayAct}
+use Rattle.mq_watch.specs.from_events.States.{NodeState, IsServed, node_in}
+use Rattle.mq_watch.specs.from_events.Events.{MayAct}
 use Rattle.mq_handle.specs.Turns.{turn_of}
 use Rattle.mq_nodes.specs.declared.nodes.Monitored.{Monitored}
 use Rattle.mq_nodes.specs.declared.nodes.Monitored.TheVariants as monitors

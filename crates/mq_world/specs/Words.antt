@@ -1,12 +1,12 @@
 -- What is said of a network before it starts and once it rests.
 pub use Rattle.mq_world_begin.specs.Rested.{Began, IsRested, IsRestedAt, OpensWith, RestState}
-pub use Rattle.mq_events.specs.Texts.{IsTextCommand}
-pub use Rattle.mq_acts.specs.Advances.{IsTextLine, Keeps}
-pub use Rattle.mq_acts.specs.Restarts.{StaysOwn}
+pub use Rattle.mq_watch.specs.from_events.Texts.{IsTextCommand}
+pub use Rattle.mq_shared.specs.from_acts.Advances.{IsTextLine, Keeps}
+pub use Rattle.mq_shared.specs.from_acts.Restarts.{StaysOwn}
 pub use Rattle.mq_cable.specs.Lists.{AllLow}
-pub use Rattle.mq_events.specs.Events.{MayAct}
-pub use Rattle.mq_events.specs.States.{IsKept, IsServed, last_entry, marked}
-pub use Rattle.mq_events.specs.Texts.{IsTextAct}
+pub use Rattle.mq_watch.specs.from_events.Events.{MayAct}
+pub use Rattle.mq_watch.specs.from_events.States.{IsKept, IsServed, last_entry, marked}
+pub use Rattle.mq_watch.specs.from_events.Texts.{IsTextAct}
 pub use Rattle.mq_history.specs.Scenarios.{ArePhased}
 pub use Rattle.mq_nodes.specs.Carried.{AllCarried}
 pub use Rattle.mq_nodes.specs.Course.{Ready, Rests, noted}
@@ -23,7 +23,7 @@ pub use Rattle.mq_watch.specs.Turns.{connection_of}
 pub use Rattle.mq_ways.specs.Ways.{AreNew}
 pub use Rattle.mq_world.specs.Ends.{EndOn, SideTurn, TimeoutOn, far_sides, near_sides}
 pub use Rattle.mq_world.specs.Lines.{LineOn}
-pub use Rattle.mq_events.specs.Disks.{HasRisen}
+pub use Rattle.mq_watch.specs.from_events.Disks.{HasRisen}
 pub use Rattle.mq_world.specs.Resting.{AreRisen, IsRisen, counts_in, manager_in, own_in, rest_of}
 pub use Rattle.mq_world.specs.Settling.{IsOf, NodeDoes, NodeSays, Settles, cut_or, ended}
 pub use Rattle.mq_world.specs.Starting.{IsFresh, IsRoom, Starts, StartsAt, around, begun_script, begun_state, own_begun}

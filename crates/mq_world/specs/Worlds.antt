@@ -20,9 +20,9 @@ use Rattle.mq_nodes.specs.Texts.{AllFit}
 use Rattle.mq_course.specs.Courses.{course_of}
 use Rattle.mq_progress.specs.Course as progress
 use Rattle.mq_progress.specs.Course.{Stands}
-use Rattle.mq_events.specs.States.{NodeState, IsKept}
-use Rattle.mq_events.specs.Texts.{IsTextCommand}
-use Rattle.mq_split.specs.Facing.{AreJoined}
+use Rattle.mq_watch.specs.from_events.States.{NodeState, IsKept}
+use Rattle.mq_watch.specs.from_events.Texts.{IsTextCommand}
+use Rattle.mq_shared.specs.from_split.Facing.{AreJoined}
 
 -- The scenario; each manager's node, each script's progress; the lines of cables, and what lies on each; the manager of each
 -- rules table; the monitors.

@@ -6,15 +6,15 @@ ghost use Rattle.mq_history.specs.declared.calls.Call.TheVariants as calls;
 ghost use Rattle.mq_world.specs.Words as words;
 
 use crate::settling::{ended, settle};
-use mq_acts::ask;
 use mq_base::NoMemory;
 use mq_calls::{Hconn, RestartFault};
 use mq_disk::Disk;
-use mq_events::{Node, last_entry};
 use mq_history::{Act, Acted, Actor, Call, Entry, Reply};
 use mq_lines::copy_command;
 use mq_nodes::Stop;
 use mq_sc_parse::Command;
+use mq_shared::below::ask;
+use mq_watch::below::{Node, last_entry};
 use std::alloc::Global;
 
 /// What an actor asks of a manager beside MQI calls.

@@ -9,10 +9,9 @@ use crate::settling::settle;
 use mq_base::NoMemory;
 use mq_cable::Near;
 use mq_disk::Disk;
-use mq_events::Node;
 use mq_nodes::Stop;
-use mq_takes::receiver_turn;
-use mq_turns::{Turn, sender_turn};
+use mq_shared::below::{Turn, receiver_turn, sender_turn};
+use mq_watch::below::Node;
 use mq_ways::Cable;
 
 /// A turn begins: no push and no fetch was refused yet.

@@ -6,9 +6,9 @@ ghost use Rattle.mq_world.specs.Words as words;
 use crate::parts::NetParts;
 use mq_base::Items;
 use mq_disk::Disk;
-use mq_events::Node;
 use mq_history::CableLine;
 use mq_idle::cable_idle;
+use mq_watch::below::Node;
 use mq_ways::Cable;
 
 /// The node of a manager.

@@ -2,6 +2,7 @@
 #![tactic(auto)]
 
 mod acting;
+pub mod below;
 mod cabling;
 mod ends;
 mod idling;

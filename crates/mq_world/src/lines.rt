@@ -5,10 +5,10 @@ ghost use Rattle.mq_world.specs.Words as words;
 use crate::settling::settle;
 use mq_base::NoMemory;
 use mq_disk::Disk;
-use mq_events::Node;
 use mq_history::ScriptPart;
 use mq_nodes::{Advanced, Stop};
 use mq_progress::Progress;
+use mq_watch::below::Node;
 
 /// Does a script's next line at the node of a manager, unless its get is to wait, or no line is left.
 #[tactic(auto, using(crate::proofs::NodeLaws::line_then))]
@@ -27,10 +27,10 @@ pub fn advance_on<D: Disk>(
     ensures told { words.LineOn script part.now manager progress.old node.old result progress.new node.new }
     ensures own { D.tells → words.StaysOwn node.old.history.entries node.new.history.entries }
 {
-    match mq_acts::advance(node, script, part, progress) {
+    match mq_shared::below::advance(node, script, part, progress) {
         Err(NoMemory) => Err(Stop::NoMemory),
-        Ok(mq_acts::Advanced::Ended) => Ok(Advanced::Ended),
-        Ok(mq_acts::Advanced::Waiting(until)) => Ok(Advanced::Waiting(until)),
-        Ok(mq_acts::Advanced::Done) => settle(node, manager, Advanced::Done),
+        Ok(mq_shared::below::Advanced::Ended) => Ok(Advanced::Ended),
+        Ok(mq_shared::below::Advanced::Waiting(until)) => Ok(Advanced::Waiting(until)),
+        Ok(mq_shared::below::Advanced::Done) => settle(node, manager, Advanced::Done),
     }
 }

@@ -4,10 +4,10 @@ ghost use Rattle.mq_world.specs.Words as words;
 
 use mq_base::Items;
 use mq_disk::Disk;
-use mq_events::{Node, NodeParts, Opening};
 use mq_history::{History, Scenario};
-use mq_manager::Manager;
+use mq_idle::below::Manager;
 use mq_own::Own;
+use mq_watch::below::{Node, NodeParts, Opening};
 use mq_world_begin::Rested;
 use std::alloc::Global;
 use std::marker::Model;

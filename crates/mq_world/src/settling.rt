@@ -2,11 +2,11 @@
 ghost use Rattle.std.specs.Prelude.{◌≡◌, IfOk};
 ghost use Rattle.mq_world.specs.Words as words;
 
-use mq_acts::serve;
 use mq_base::NoMemory;
 use mq_disk::Disk;
-use mq_events::Node;
 use mq_nodes::Stop;
+use mq_shared::below::serve;
+use mq_watch::below::Node;
 
 /// How a call of the node at a place ends, whose trigger turns were served or found no memory.
 pub fn ended<T: Drop>(

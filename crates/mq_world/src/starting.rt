@@ -2,19 +2,19 @@
 ghost use Rattle.std.specs.Prelude.{◌≡◌, ◌-◌, ◌+◌, ◌<◌, ◌≤◌, ◌++◌, ◌∷◌, [], ℕ, All, IfOk, Some, length, map, slice_get, vec_len, vec_capacity};
 ghost use Rattle.mq_history.specs.declared.scenario.RulesPart as rules_parts;
 ghost use Rattle.mq_world.specs.Words as words;
-ghost use Rattle.mq_events.specs.States as states;
+ghost use Rattle.mq_watch.specs.from_events.States as states;
 
 use crate::cabling::{Cabling, cabling_of};
-use mq_acts::begin;
 use mq_base::{Items, NoMemory};
 use mq_disk::Disk;
-use mq_events::{Entries, Node, NodeParts, Opening};
 use mq_history::{CableLine, History, Mark, MonitorLine, RulesPart, Scenario};
-use mq_manager::Manager;
+use mq_idle::below::Manager;
 use mq_own::Own;
 use mq_progress::Progress;
+use mq_shared::below::begin;
+use mq_watch::below::{Entries, Node, NodeParts, Opening};
 use mq_ways::Cable;
-use mq_world_begin::rewind;
+use mq_world_begin::{rewind, with_one};
 use std::alloc::Global;
 use std::snapshot::Snapshot;
 
@@ -28,17 +28,6 @@ fn taken<T>(list: &mut Vec<T>) -> T
         Some(value) => value,
         None => unreachable!(),
     }
-}
-
-/// One value more, in room that was taken.
-fn with_one<T: Drop>(mut list: Vec<T>, value: T) -> Vec<T>
-    requires room { vec_len list < vec_capacity list }
-    ensures items { result.items ≡ list.items ++ value ∷ [] }
-    ensures len { vec_len result ≡ vec_len list + 1 }
-    ensures capacity { vec_capacity result ≡ vec_capacity list }
-{
-    list.push_reserved(value);
-    list
 }
 
 /// A node of which nothing has happened, of a manager that has just begun: its channels' ends begin with what is hardened. It takes

@@ -6,9 +6,9 @@ use crate::idling::line_at;
 use crate::parts::NetParts;
 use crate::settling::ended;
 use mq_disk::Disk;
-use mq_events::Node;
 use mq_nodes::Stop;
-use mq_turns::{Turn, timeout};
+use mq_shared::below::{Turn, timeout};
+use mq_watch::below::Node;
 
 /// A timeout comes to the sender's end of a cable at its node, if it waits for an answer: whether it did. No trigger is due behind
 /// it. It takes no memory.

@@ -8,10 +8,10 @@ use crate::settling::settle;
 use mq_base::NoMemory;
 use mq_calls::Hconn;
 use mq_disk::Disk;
-use mq_events::Node;
 use mq_handle::handler_turn;
 use mq_history::MonitorLine;
 use mq_nodes::{Monitored, Stop};
+use mq_watch::below::Node;
 use mq_watch::{connect, monitor_turn, open};
 
 /// The handler of a rules table takes a turn at its node, if it isn't idle: whether it did.

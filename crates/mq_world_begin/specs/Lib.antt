@@ -1,1 +1,3 @@
 pub mod Rested
+pub mod from_begin
+pub mod from_opening

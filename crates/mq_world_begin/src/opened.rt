@@ -9,10 +9,10 @@ ghost use Rattle.mq_opening.specs.Opened.{JustBegun};
 ghost use Rattle.mq_world_begin.specs.Rested.{OpensWith};
 
 use mq_base::{Items, NoMemory, QName};
+use mq_begin::below::Manager;
 use mq_core::{Core, Parts};
 use mq_disk::Disk;
 use mq_history::{History, Scenario};
-use mq_manager::Manager;
 use mq_opening::{opening_length, opening_of};
 use mq_own::Own;
 use mq_owned::own_of;
@@ -73,7 +73,7 @@ fn history_of<D: Disk>(alloc: Global, manager: &Manager<D>) -> Result<History, N
 }
 
 /// One value more, in room that was taken.
-fn with_one<T: Drop>(mut list: Vec<T>, value: T) -> Vec<T>
+pub fn with_one<T: Drop>(mut list: Vec<T>, value: T) -> Vec<T>
     requires room { vec_len list < vec_capacity list }
     ensures items { result.items ≡ list.items ++ value ∷ [] }
     ensures len { vec_len result ≡ vec_len list + 1 }

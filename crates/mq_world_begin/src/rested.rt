@@ -2,10 +2,10 @@
 ghost use Rattle.std.specs.Prelude.{◌≡◌, map};
 ghost use Rattle.mq_world_begin.specs.Rested.{IsRested};
 
+use mq_begin::below::Manager;
 use mq_begin::disks_of;
 use mq_disk::Disk;
 use mq_history::{History, Scenario};
-use mq_manager::Manager;
 use mq_own::Own;
 use std::marker::Model;
 use std::snapshot::Snapshot;

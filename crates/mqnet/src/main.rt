@@ -1,23 +1,14 @@
 //! Runs queue managers by a scenario from standard input, over files of the current folder, and reports on standard output.
 #![tactic(auto)]
 
-mod top;
-
 use mq_base::{StdSink, StdSource};
 use mq_disk::FileShelf;
 use mq_gate::OpenGate;
+use mq_top::{Ended, mqnet};
 use std::process::ExitCode;
 use std::rt::Clock;
 use std::time::{SystemTime, UNIX_EPOCH};
 use std::{env, io};
-use top::mqnet;
-
-#[cfg(test)]
-mod channels;
-#[cfg(test)]
-mod phases;
-#[cfg(test)]
-mod tests;
 
 /// The moment in milliseconds since 1970, or 0 where the clock tells none.
 fn moment(rt: &impl Clock) -> u64 {
@@ -39,7 +30,12 @@ fn main(rt: HostRuntime) -> io::Result<ExitCode> {
     let mut sink = StdSink::new(io::writer(&rt));
     let mut shelf = FileShelf::new(&rt);
     let start = moment(&rt);
-    let ended = mqnet(
+    let Ended {
+        status,
+        network,
+        disks,
+        told,
+    } = mqnet(
         &rt,
         rt.alloc(),
         &words,
@@ -49,12 +45,17 @@ fn main(rt: HostRuntime) -> io::Result<ExitCode> {
         start,
         &OpenGate,
     );
-    let number = ended.status.number();
+    // (taken apart here, the network has one drop, and none at each way out)
+    let _disks = match network {
+        Some(rested) => rested.into_disks(),
+        None => disks,
+    };
+    let number = status.number();
     if number != 0 {
         eprintln!(rt; "mqnet: status {number}")?;
-        match &ended.told {
+        match &told {
             Some(told) => eprint!(rt; "mqnet: {told}")?,
-            None => eprintln!(rt; "mqnet: {}", ended.status.words())?,
+            None => eprintln!(rt; "mqnet: {}", status.words())?,
         }
     }
     Ok(ExitCode::from(number))

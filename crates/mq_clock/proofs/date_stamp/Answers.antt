@@ -2,7 +2,7 @@ use Rattle.std.proofs.Common.{◌≡◌, ◌/◌, pos, arith, ◌∙◌}
 use Rattle.jiff.proofs.SpanFacts.{signed_arith}
 use Rattle.jiff.specs.Words.{epoch_day}
 use Rattle.std.proofs.lemmas.Int.{ints}
-use Rattle.mq_clock.specs.Stamps.{put_date}
+use Rattle.mq_heads.specs.Stamps.{put_date}
 use Rattle.mq_clock.proofs.Calendar.{year_after, date_digits_found}
 use Rattle.mq_clock.proofs.date_stamp.Goals as goal
 

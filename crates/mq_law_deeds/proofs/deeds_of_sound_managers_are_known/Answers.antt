@@ -3,8 +3,8 @@ use Rattle.mq_spec_node.specs.Node.{Node}
 use Rattle.mq_spec_node.specs.Replays.{after, opening_node}
 use Rattle.mq_spec_network.specs.Given.{surroundings}
 use Rattle.mq_law_node.specs.Ends.{sender_of}
-use Rattle.mq_law_keys.proofs.Starting.{run_keyed}
-use Rattle.mq_law_keys.proofs.Telling.{told_apart}
+use Rattle.mq_law_unshared.proofs.from_law_keys.Starting.{run_keyed}
+use Rattle.mq_law_unshared.proofs.from_law_keys.Telling.{told_apart}
 use Rattle.mq_law_deeds.proofs.Knowing.{known_all}
 use Rattle.mq_law_deeds.proofs.deeds_of_sound_managers_are_known.Goals as goal
 

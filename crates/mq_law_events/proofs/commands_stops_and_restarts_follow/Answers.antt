@@ -1,6 +1,6 @@
 use Rattle.std.proofs.Common.{sym, subst}
 use Rattle.mq_calls.specs.State.{Plain}
-use Rattle.mq_spec_network.specs.Ledger as ledgers
+use Rattle.mq_law_seen.specs.from_spec_network.Ledger as ledgers
 use Rattle.mq_law_events.specs.Tied.{Follow}
 use Rattle.mq_law_events.proofs.Calling as calling
 use Rattle.mq_law_events.proofs.Stopping as stopping

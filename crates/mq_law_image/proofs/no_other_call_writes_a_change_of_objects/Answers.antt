@@ -1,4 +1,4 @@
-use Rattle.mq_law_manager.proofs.Forcing.{conn_forces, open_forces, close_forces, put_forces, put1_forces, get_forces, cmit_forces, back_forces, disc_forces, trigger_forces, seize_forces, leave_forces, bound_forces, expire_forces, hold_forces, release_forces, prepare_forces, receive_forces, move_forces, discard_forces}
+use Rattle.mq_law_log.proofs.from_law_manager.Forcing.{conn_forces, open_forces, close_forces, put_forces, put1_forces, get_forces, cmit_forces, back_forces, disc_forces, trigger_forces, seize_forces, leave_forces, bound_forces, expire_forces, hold_forces, release_forces, prepare_forces, receive_forces, move_forces, discard_forces}
 use Rattle.mq_law_image.proofs.Silent.{silent, harden_makes}
 use Rattle.mq_law_image.proofs.no_other_call_writes_a_change_of_objects.Goals as goal
 

@@ -2,7 +2,7 @@ use Rattle.std.proofs.Common.{◌≡◌, ◌<◌, ◌++◌, List, length, take, 
 use Rattle.std.specs.Prelude.{map}
 use Rattle.mq_spec_node.specs.Node.{ChannelEnd}
 use Rattle.mq_spec_node.specs.Words.{end_begun}
-use Rattle.mq_own.proofs.MapLaws.{mapped_next, mapped_all, mapped_long}
+use Rattle.mq_base.proofs.MapLaws.{mapped_next, mapped_all, mapped_long}
 use Rattle.mq_acts.proofs.beginning.begin_ends.Goals as goal
 
 pub at_mut-requires : goal.at_mut-requires

@@ -8,7 +8,7 @@ use Rattle.mq_calls.specs.State.Change.{Hold, AddBatch}
 use Rattle.mq_calls.specs.Meeting.Wants.{Anywhere}
 use Rattle.mq_spec_manager.specs.Words.{Never, idents_of}
 use Rattle.mq_spec_manager.specs.Agents.{hold_batch, hold_rows, queue_of_sender}
-use Rattle.mq_unit.specs.Told.{Telling}
+use Rattle.mq_get.specs.from_unit.Told.{Telling}
 use Rattle.mq_core.specs.declared.parts.ChannelEnds.{ChannelEnds}
 use Rattle.mq_core.specs.Views.{PartsValue, plain_of, frozen_of}
 use Rattle.mq_core.specs.Ties.{Tied}

@@ -1,4 +1,4 @@
-use Rattle.std.proofs.Common.{◌≡◌, ℕ, ◌+◌, ◌<◌, ◌∙◌, Bool, true, sym, ap, subst, refl, arith}
+use Rattle.std.proofs.Common.{◌≡◌, ℕ, ◌<◌, ◌∙◌, Bool, true, sym, ap, subst, refl, arith}
 use Rattle.std.specs.Prelude.{List, [], ◌∷◌, ◌++◌, Some, Ok, Err}
 use Rattle.mq_base.specs.Outside.{Rose}
 use Rattle.mq_disk.specs.declared.cutter.Stop.{Stop}
@@ -14,7 +14,7 @@ use Rattle.mq_calls.specs.State.Change.{Leave}
 use Rattle.mq_calls.specs.Meeting.Wants.{Anywhere}
 use Rattle.mq_spec_manager.specs.Words.{Never}
 use Rattle.mq_spec_manager.specs.Agents.{HasFreeRow, row_with, discard}
-use Rattle.mq_unit.specs.Told.{Telling}
+use Rattle.mq_get.specs.from_unit.Told.{Telling}
 use Rattle.mq_core.specs.declared.parts.StoppedWrite.{StoppedWrite}
 use Rattle.mq_core.specs.Views.{PartsValue, plain_of, frozen_of, noted}
 use Rattle.mq_core.specs.Ties.{Tied, mode_is_up}

@@ -1,4 +1,4 @@
-use Rattle.std.proofs.Common.{◌≡◌, ◌+◌, ◌∙◌, Bool, false, sym, ap, subst, refl}
+use Rattle.std.proofs.Common.{◌≡◌, ◌∙◌, Bool, false, sym, ap, subst, refl}
 use Rattle.std.specs.Prelude.{List, [], ◌∷◌, ◌++◌, Some, Ok}
 use Rattle.mq_calls.specs.declared.deltas.Did.TheVariants as did
 use Rattle.mq_calls.specs.declared.deltas.Why.TheVariants as whys
@@ -8,7 +8,7 @@ use Rattle.mq_calls.specs.State.Change.{Leave}
 use Rattle.mq_calls.specs.Meeting.Wants.{Anywhere}
 use Rattle.mq_spec_manager.specs.Words.{Never}
 use Rattle.mq_spec_manager.specs.Agents.{HasFreeRow, row_with, discard}
-use Rattle.mq_unit.specs.Told.{Telling}
+use Rattle.mq_get.specs.from_unit.Told.{Telling}
 use Rattle.mq_core.specs.Views.{PartsValue, plain_of, frozen_of}
 use Rattle.mq_core.specs.Ties.{Tied}
 use Rattle.mq_core.proofs.MeetLaws.{mode_up}

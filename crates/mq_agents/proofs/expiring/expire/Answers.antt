@@ -6,7 +6,7 @@ use Rattle.mq_calls.specs.Words.{Part, Step, ManagerValue, MeetsOrWants, Do}
 use Rattle.mq_calls.specs.declared.agents.AgentStop.{AgentStop}
 use Rattle.mq_spec_manager.specs.Words.{Never, expired_parts}
 use Rattle.mq_spec_manager.specs.Agents.{expire, expired_rows, queue_of_sender}
-use Rattle.mq_scan.specs.declared.scanning.Met.{Met}
+use Rattle.mq_get.specs.from_scan.{Met}
 use Rattle.mq_core.specs.Values.{CoreValue, manager_of, begun_call, bodies_in, WritesLog}
 use Rattle.mq_core.specs.Views.{PartsValue, plain_of}
 use Rattle.mq_get.specs.Does.{seen}

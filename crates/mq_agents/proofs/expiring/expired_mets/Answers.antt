@@ -1,7 +1,7 @@
 use Rattle.std.proofs.Common.{◌≡◌, ◌∙◌, ℕ, ap, subst}
 use Rattle.std.specs.Prelude.{IfOk, map, filter}
 use Rattle.mq_queue.specs.Rows.{is_free}
-use Rattle.mq_scan.specs.Scans.{met_of}
+use Rattle.mq_get.specs.from_scan.Scans.{met_of}
 use Rattle.mq_place.specs.States.{state_in}
 use Rattle.mq_core.specs.Views.{PartsValue}
 use Rattle.mq_agents.specs.Expiring.{is_past_row}

@@ -1,5 +1,5 @@
 use Rattle.std.proofs.Common.{List, None, ◌++◌, sym, ap, ◌∙◌, arith}
-use Rattle.mq_scan.specs.declared.scanning.Met.{Met}
+use Rattle.mq_get.specs.from_scan.{Met}
 use Rattle.mq_agents.proofs.ExpireLaws.{past_left, past_start, past_next, past_none, left_start, left_next}
 use Rattle.mq_agents.proofs.expiring.past_rows.Goals as goal
 

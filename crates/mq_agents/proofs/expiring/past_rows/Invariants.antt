@@ -1,6 +1,6 @@
 use Rattle.std.proofs.Common.{◌≡◌, ◌+◌, ◌≤◌, ◌++◌, length, map, filter}
 use Rattle.mq_queue.specs.Rows.{is_free}
-use Rattle.mq_scan.specs.Scans.{met_of}
+use Rattle.mq_get.specs.from_scan.Scans.{met_of}
 use Rattle.mq_agents.specs.Expiring.{is_past_row}
 use Rattle.mq_agents.proofs.ExpireLaws.{past_left, free_left}
 use Rattle.mq_agents.proofs.expiring.past_rows.Given as goal

@@ -6,15 +6,15 @@ use Rattle.mq_calls.specs.declared.deltas.Did.{Did}
 use Rattle.mq_calls.specs.State.Change.{SetReceiver}
 use Rattle.mq_calls.specs.declared.state.ReceiverSide.{ReceiverSide}
 use Rattle.mq_calls.specs.declared.deltas.Did.TheVariants as did
-use Rattle.mq_unit.specs.Told.{Telling}
+use Rattle.mq_get.specs.from_unit.Told.{Telling}
 use Rattle.mq_sides.specs.Places.{AreByName}
 use Rattle.mq_core.specs.declared.parts.StoppedWrite.TheVariants as writes
 use Rattle.mq_core.specs.Views.{PartsValue, frozen_of}
 use Rattle.mq_core.specs.Ties.{EndsReady, mode_is_up}
 use Rattle.mq_core.proofs.MeetLaws.{mode_up}
-use Rattle.mq_agents.specs.Written.{IsAside, is_live, live_need, with_receivers, note_record, noted_change}
+use Rattle.mq_agents.specs.Written.{IsAside, is_live, live_need, with_receivers, note_record, noted_receiver}
 use Rattle.mq_agents.proofs.ReadyLaws.{closing_spare, live_found, live_seat, old_open, old_receiver, old_told, receiver_closed}
-use Rattle.mq_agents.proofs.WriteLaws.{aside_bodies, aside_view, drawn_aside, hardened_tied, hardened_meets, hardening_ends, hardening_told, hardened_wrote, hardened_bodies, not_wanted, receiver_hardened, tied_after, wants_none}
+use Rattle.mq_agents.proofs.WriteLaws.{aside_bodies, aside_view, drawn_aside, hardened_tied, hardened_meets, hardening_ends, hardening_told, hardened_wrote, hardened_bodies, not_wanted, receiver_changed, receiver_hardened, tied_after, wants_none}
 use Rattle.mq_core.specs.Values.{CoreValue, manager_of, behind_record}
 use Rattle.mq_agents.proofs.hardening.close.Goals as goal
 
@@ -22,15 +22,17 @@ pub draw-requires : goal.draw-requires
 draw-requires g c =
     let plain = ap (λ (w : CoreValue). w.plain) (c.core.view_is ∙ c.begin_call.ensures) in
     let x : PartsValue = c.core.inside.parts in
-    let side = c.args.side in
+    let side = noted_receiver c.args.channel.now c.args.note.now c.args.core.now.plain in
     let up = mode_up (frozen_of x) x.mode (ap (λ (p : Plain). is_up p.running) plain ∙ c.requires.up) in
     let w = (c.core.invariant.up up).ends in
-    let live : is_live (receiver_in side.channel x.ends.receivers) ≡ true = ap (λ (n : List ℕ). is_live (receiver_in n x.ends.receivers)) c.requires.side.named ∙ ap (λ (p : Plain). is_live (receiver_data c.args.channel.now p)) plain ∙ c.requires.live in
+    let live : is_live (receiver_in side.channel x.ends.receivers) ≡ true = ap (λ (p : Plain). is_live (receiver_data c.args.channel.now p)) plain ∙ c.requires.live in
     let had = old_open side.channel x.ends w.receivers live in
     closing_spare side x.ends x.log.spare w c.requires.closed (omega (arith, had))
 
-pub kept_closed-kept-requires : goal.kept_closed-kept-requires
-kept_closed-kept-requires g c = c.requires.closed
+pub of_closed-kept-requires : goal.of_closed-kept-requires
+of_closed-kept-requires g c =
+    let plain = ap (λ (w : CoreValue). w.plain) (c.core.view_is ∙ c.begin_call.ensures) in
+    ap (λ (k : ReceiverSide). k.hardened.closed) (c.noted_receiver-side.ensures ∙ ap (noted_receiver c.args.channel.now c.args.note.now) plain) ∙ c.requires.closed
 
 pub write_receiver-requires-clause-live : goal.write_receiver-requires-clause-live
 write_receiver-requires-clause-live g c =
@@ -45,11 +47,11 @@ pub write_receiver-requires-clause-ends : goal.write_receiver-requires-clause-en
 write_receiver-requires-clause-ends g c =
     let plain = ap (λ (w : CoreValue). w.plain) (c.core.view_is ∙ c.begin_call.ensures) in
     let x : PartsValue = c.core.inside.parts in
-    let side : ReceiverSide = c.kept_closed-kept.result in
-    let is : side ≡ c.args.side = c.kept_closed-kept.ensures in
+    let side : ReceiverSide = c.of_closed-kept.result in
+    let is = c.of_closed-kept.ensures ∙ c.noted_receiver-side.ensures ∙ ap (noted_receiver c.args.channel.now c.args.note.now) plain in
     let up = mode_up (frozen_of x) x.mode (ap (λ (p : Plain). is_up p.running) plain ∙ c.requires.up) in
     let w = (c.core.invariant.up up).ends in
-    let named = ap (λ (k : ReceiverSide). k.channel) is ∙ c.requires.side.named in
+    let named = ap (λ (k : ReceiverSide). k.channel) is in
     let live : is_live (receiver_in side.channel x.ends.receivers) ≡ true = ap (λ (n : List ℕ). is_live (receiver_in n x.ends.receivers)) named ∙ ap (λ (p : Plain). is_live (receiver_data c.args.channel.now p)) plain ∙ c.requires.live in
     let had = old_open side.channel x.ends w.receivers live in
     subst (λ (q : PartsValue). EndsReady (with_receivers (set_receiver side q.ends.receivers) q.ends) q.log.spare) (sym c.draw.ensures)
@@ -65,12 +67,11 @@ invariant_of-core g c =
     let channel = c.args.channel.now in
     let note = c.args.note.now in
     let bytes = c.args.bytes.now in
-    let side : ReceiverSide = c.kept_closed-kept.result in
-    let is : side ≡ c.args.side = c.kept_closed-kept.ensures in
-    let part = c.requires.side.part ∙ ap (λ (k : ReceiverSide). noted_change channel note (SetReceiver channel k.hardened)) (sym is) in
+    let side : ReceiverSide = c.of_closed-kept.result in
+    let is = c.of_closed-kept.ensures ∙ c.noted_receiver-side.ensures ∙ ap (noted_receiver c.args.channel.now c.args.note.now) plain in
     let up = mode_up (frozen_of x) x.mode (ap (λ (p : Plain). is_up p.running) plain ∙ c.requires.up) in
     let w = (c.core.invariant.up up).ends in
-    let named = ap (λ (k : ReceiverSide). k.channel) is ∙ c.requires.side.named in
+    let named = ap (λ (k : ReceiverSide). k.channel) is in
     let live : is_live (receiver_in side.channel x.ends.receivers) ≡ true = ap (λ (n : List ℕ). is_live (receiver_in n x.ends.receivers)) named ∙ ap (λ (p : Plain). is_live (receiver_data channel p)) plain ∙ c.requires.live in
     let e = with_receivers (set_receiver side y.ends.receivers) y.ends in
     let m = subst (IsAside x) (sym c.draw.ensures) (drawn_aside 34 x) in
@@ -78,7 +79,7 @@ invariant_of-core g c =
     let held = ap (λ (q : PartsValue). q.log.reserved) c.draw.ensures in
     let enough = (c.core.invariant.up up).room in
     let ends = ap (λ (q : PartsValue). q.ends.receivers) c.draw.ensures in
-    let some = not_wanted (Option ReceiverSide) (AreByName (λ (r : ReceiverSide). r.channel) y.ends.receivers → find (λ (r : ReceiverSide). bytes_eq side.channel r.channel) y.ends.receivers ≡ None) (5 + length bytes) y c.in-Err.unwritten
+    let some = not_wanted (Option ReceiverSide) (AreByName (λ (r : ReceiverSide). r.channel) y.ends.receivers → find (λ (r : ReceiverSide). bytes_eq side.channel r.channel) y.ends.receivers ≡ None) (5 + length bytes) y.log c.in-Err.unwritten
     c.in-Err.ensures.lacks (omega (arith, room, held, enough, c.requires.small))
     (λ none. live_found side.channel y.ends.receivers (ap (λ (rs : List ReceiverSide). is_live (receiver_in side.channel rs)) ends ∙ live) (none (subst (λ (rs : List ReceiverSide). AreByName (λ (r : ReceiverSide). r.channel) rs) (sym ends) w.receivers))) in
     tied_after c.in-Err.unwritten x y z (writes.Hardened channel note) (note_record channel note) bytes e m (λ k. absurd (some k)) c.requires.bytes c.requires.size c.in-Err.ensures.written c.core.invariant
@@ -89,24 +90,19 @@ returns-in-Err-clause-wants g c =
     let plain = ap (λ (w : CoreValue). w.plain) v in
     let x : PartsValue = c.core.inside.parts in
     let y : PartsValue = c.draw.new.parts in
-    let z : PartsValue = c.write_receiver.new.parts in
     let channel = c.args.channel.now in
-    let note = c.args.note.now in
     let bytes = c.args.bytes.now in
-    let side : ReceiverSide = c.kept_closed-kept.result in
-    let is : side ≡ c.args.side = c.kept_closed-kept.ensures in
-    let part = c.requires.side.part ∙ ap (λ (k : ReceiverSide). noted_change channel note (SetReceiver channel k.hardened)) (sym is) in
+    let side : ReceiverSide = c.of_closed-kept.result in
+    let is = c.of_closed-kept.ensures ∙ c.noted_receiver-side.ensures ∙ ap (noted_receiver c.args.channel.now c.args.note.now) plain in
     let up = mode_up (frozen_of x) x.mode (ap (λ (p : Plain). is_up p.running) plain ∙ c.requires.up) in
     let w = (c.core.invariant.up up).ends in
-    let named = ap (λ (k : ReceiverSide). k.channel) is ∙ c.requires.side.named in
+    let named = ap (λ (k : ReceiverSide). k.channel) is in
     let live : is_live (receiver_in side.channel x.ends.receivers) ≡ true = ap (λ (n : List ℕ). is_live (receiver_in n x.ends.receivers)) named ∙ ap (λ (p : Plain). is_live (receiver_data channel p)) plain ∙ c.requires.live in
-    let e = with_receivers (set_receiver side y.ends.receivers) y.ends in
-    let m = subst (IsAside x) (sym c.draw.ensures) (drawn_aside 34 x) in
     let room = ap (λ (q : PartsValue). q.log.room) c.draw.ensures in
     let held = ap (λ (q : PartsValue). q.log.reserved) c.draw.ensures in
     let enough = (c.core.invariant.up up).room in
     let ends = ap (λ (q : PartsValue). q.ends.receivers) c.draw.ensures in
-    let some = not_wanted (Option ReceiverSide) (AreByName (λ (r : ReceiverSide). r.channel) y.ends.receivers → find (λ (r : ReceiverSide). bytes_eq side.channel r.channel) y.ends.receivers ≡ None) (5 + length bytes) y c.in-Err.unwritten
+    let some = not_wanted (Option ReceiverSide) (AreByName (λ (r : ReceiverSide). r.channel) y.ends.receivers → find (λ (r : ReceiverSide). bytes_eq side.channel r.channel) y.ends.receivers ≡ None) (5 + length bytes) y.log c.in-Err.unwritten
     c.in-Err.ensures.lacks (omega (arith, room, held, enough, c.requires.small))
     (λ none. live_found side.channel y.ends.receivers (ap (λ (rs : List ReceiverSide). is_live (receiver_in side.channel rs)) ends ∙ live) (none (subst (λ (rs : List ReceiverSide). AreByName (λ (r : ReceiverSide). r.channel) rs) (sym ends) w.receivers))) in
     wants_none c.in-Err.unwritten c.agent_of-agent.result c.agent_of-agent.ensures some
@@ -121,13 +117,10 @@ returns-in-Err-clause-meets g c =
     let channel = c.args.channel.now in
     let note = c.args.note.now in
     let bytes = c.args.bytes.now in
-    let side : ReceiverSide = c.kept_closed-kept.result in
-    let is : side ≡ c.args.side = c.kept_closed-kept.ensures in
-    let part = c.requires.side.part ∙ ap (λ (k : ReceiverSide). noted_change channel note (SetReceiver channel k.hardened)) (sym is) in
+    let side : ReceiverSide = c.of_closed-kept.result in
+    let is = c.of_closed-kept.ensures ∙ c.noted_receiver-side.ensures ∙ ap (noted_receiver c.args.channel.now c.args.note.now) plain in
+    let part = receiver_changed channel note side c.args.core.now.plain c.requires.receiver is in
     let up = mode_up (frozen_of x) x.mode (ap (λ (p : Plain). is_up p.running) plain ∙ c.requires.up) in
-    let w = (c.core.invariant.up up).ends in
-    let named = ap (λ (k : ReceiverSide). k.channel) is ∙ c.requires.side.named in
-    let live : is_live (receiver_in side.channel x.ends.receivers) ≡ true = ap (λ (n : List ℕ). is_live (receiver_in n x.ends.receivers)) named ∙ ap (λ (p : Plain). is_live (receiver_data channel p)) plain ∙ c.requires.live in
     let e = with_receivers (set_receiver side y.ends.receivers) y.ends in
     let m = subst (IsAside x) (sym c.draw.ensures) (drawn_aside 34 x) in
     hardening_ends c.in-Err.unwritten (manager_of c.args.core.now) x y z c.core.inside.effects.dids channel note (SetReceiver channel side.hardened) bytes e c.agent_of-agent.result c.stop_of-stopped.result
@@ -143,13 +136,10 @@ returns-in-Err-clause-told g c =
     let channel = c.args.channel.now in
     let note = c.args.note.now in
     let bytes = c.args.bytes.now in
-    let side : ReceiverSide = c.kept_closed-kept.result in
-    let is : side ≡ c.args.side = c.kept_closed-kept.ensures in
-    let part = c.requires.side.part ∙ ap (λ (k : ReceiverSide). noted_change channel note (SetReceiver channel k.hardened)) (sym is) in
+    let side : ReceiverSide = c.of_closed-kept.result in
+    let is = c.of_closed-kept.ensures ∙ c.noted_receiver-side.ensures ∙ ap (noted_receiver c.args.channel.now c.args.note.now) plain in
+    let part = receiver_changed channel note side c.args.core.now.plain c.requires.receiver is in
     let up = mode_up (frozen_of x) x.mode (ap (λ (p : Plain). is_up p.running) plain ∙ c.requires.up) in
-    let w = (c.core.invariant.up up).ends in
-    let named = ap (λ (k : ReceiverSide). k.channel) is ∙ c.requires.side.named in
-    let live : is_live (receiver_in side.channel x.ends.receivers) ≡ true = ap (λ (n : List ℕ). is_live (receiver_in n x.ends.receivers)) named ∙ ap (λ (p : Plain). is_live (receiver_data channel p)) plain ∙ c.requires.live in
     let e = with_receivers (set_receiver side y.ends.receivers) y.ends in
     let m = subst (IsAside x) (sym c.draw.ensures) (drawn_aside 34 x) in
     hardening_told c.in-Err.unwritten c.args.core.now _ x y z channel note (SetReceiver channel side.hardened) bytes e c.agent_of-agent.result
@@ -160,20 +150,13 @@ tell-requires g c =
     let v = c.core.view_is ∙ c.begin_call.ensures in
     let plain = ap (λ (w : CoreValue). w.plain) v in
     let x : PartsValue = c.core.inside.parts in
-    let y : PartsValue = c.draw.new.parts in
-    let z : PartsValue = c.write_receiver.new.parts in
     let channel = c.args.channel.now in
-    let note = c.args.note.now in
-    let bytes = c.args.bytes.now in
-    let side : ReceiverSide = c.kept_closed-kept.result in
-    let is : side ≡ c.args.side = c.kept_closed-kept.ensures in
-    let part = c.requires.side.part ∙ ap (λ (k : ReceiverSide). noted_change channel note (SetReceiver channel k.hardened)) (sym is) in
+    let side : ReceiverSide = c.of_closed-kept.result in
+    let is = c.of_closed-kept.ensures ∙ c.noted_receiver-side.ensures ∙ ap (noted_receiver c.args.channel.now c.args.note.now) plain in
     let up = mode_up (frozen_of x) x.mode (ap (λ (p : Plain). is_up p.running) plain ∙ c.requires.up) in
     let w = (c.core.invariant.up up).ends in
-    let named = ap (λ (k : ReceiverSide). k.channel) is ∙ c.requires.side.named in
+    let named = ap (λ (k : ReceiverSide). k.channel) is in
     let live : is_live (receiver_in side.channel x.ends.receivers) ≡ true = ap (λ (n : List ℕ). is_live (receiver_in n x.ends.receivers)) named ∙ ap (λ (p : Plain). is_live (receiver_data channel p)) plain ∙ c.requires.live in
-    let e = with_receivers (set_receiver side y.ends.receivers) y.ends in
-    let m = subst (IsAside x) (sym c.draw.ensures) (drawn_aside 34 x) in
     let before = ap live_need c.in-Ok.ensures.written.0 in
     let ends = ap (λ (q : PartsValue). live_need (old_receiver side.channel q.ends)) c.draw.ensures in
     let one = old_told side.channel x.ends w.receivers live in
@@ -182,21 +165,11 @@ tell-requires g c =
 
 pub invariant_of-core-2 : goal.invariant_of-core-2
 invariant_of-core-2 g c =
-    let v = c.core.view_is ∙ c.begin_call.ensures in
-    let plain = ap (λ (w : CoreValue). w.plain) v in
     let x : PartsValue = c.core.inside.parts in
     let y : PartsValue = c.draw.new.parts in
     let z : PartsValue = c.write_receiver.new.parts in
-    let channel = c.args.channel.now in
-    let note = c.args.note.now in
     let bytes = c.args.bytes.now in
-    let side : ReceiverSide = c.kept_closed-kept.result in
-    let is : side ≡ c.args.side = c.kept_closed-kept.ensures in
-    let part = c.requires.side.part ∙ ap (λ (k : ReceiverSide). noted_change channel note (SetReceiver channel k.hardened)) (sym is) in
-    let up = mode_up (frozen_of x) x.mode (ap (λ (p : Plain). is_up p.running) plain ∙ c.requires.up) in
-    let w = (c.core.invariant.up up).ends in
-    let named = ap (λ (k : ReceiverSide). k.channel) is ∙ c.requires.side.named in
-    let live : is_live (receiver_in side.channel x.ends.receivers) ≡ true = ap (λ (n : List ℕ). is_live (receiver_in n x.ends.receivers)) named ∙ ap (λ (p : Plain). is_live (receiver_data channel p)) plain ∙ c.requires.live in
+    let side : ReceiverSide = c.of_closed-kept.result in
     let e = with_receivers (set_receiver side y.ends.receivers) y.ends in
     let m = subst (IsAside x) (sym c.draw.ensures) (drawn_aside 34 x) in
     hardened_tied bytes e x y z m c.in-Ok.ensures.written.1 c.core.invariant
@@ -211,14 +184,11 @@ returns-clause-meets g c =
     let channel = c.args.channel.now in
     let note = c.args.note.now in
     let bytes = c.args.bytes.now in
-    let side : ReceiverSide = c.kept_closed-kept.result in
-    let is : side ≡ c.args.side = c.kept_closed-kept.ensures in
-    let part = c.requires.side.part ∙ ap (λ (k : ReceiverSide). noted_change channel note (SetReceiver channel k.hardened)) (sym is) in
+    let side : ReceiverSide = c.of_closed-kept.result in
+    let is = c.of_closed-kept.ensures ∙ c.noted_receiver-side.ensures ∙ ap (noted_receiver c.args.channel.now c.args.note.now) plain in
+    let part = receiver_changed channel note side c.args.core.now.plain c.requires.receiver is in
     let up = mode_up (frozen_of x) x.mode (ap (λ (p : Plain). is_up p.running) plain ∙ c.requires.up) in
-    let w = (c.core.invariant.up up).ends in
-    let named = ap (λ (k : ReceiverSide). k.channel) is ∙ c.requires.side.named in
-    let live : is_live (receiver_in side.channel x.ends.receivers) ≡ true = ap (λ (n : List ℕ). is_live (receiver_in n x.ends.receivers)) named ∙ ap (λ (p : Plain). is_live (receiver_data channel p)) plain ∙ c.requires.live in
-    let e = with_receivers (set_receiver side y.ends.receivers) y.ends in
+    let named = ap (λ (k : ReceiverSide). k.channel) is in
     let m = subst (IsAside x) (sym c.draw.ensures) (drawn_aside 34 x) in
     let k = c.in-Ok.ensures.written.1 in
     let armed : y.log.armed ≡ c.args.core.now.plain.log.armed = ap (λ (q : PartsValue). q.log.armed) m.same ∙ ap (λ (p : Plain). p.log.armed) plain in
@@ -228,8 +198,8 @@ returns-clause-meets g c =
     (receiver_hardened (note_record channel note) bytes side channel y z c.args.core.now.plain still c.requires.bytes c.requires.size k named (aside_view x y m ∙ plain))
     (ap (λ (t : Telling). t.dids) c.tell.ensures ∙ ap (λ (ds : List Did). ds ++ did.Hardened channel note ∷ []) c.room_of.ensures.told)
     (ap (λ (q : CoreValue). q.stopped) v)
-    (omega (arith, faults, k.later))
-    (λ some. let here : 0 < y.log.armed = omega (arith, armed, some) in let more = k.calls.1 here in omega (arith, armed, more))
+    (omega (arith, faults, k.log.later))
+    (λ some. let here : 0 < y.log.armed = omega (arith, armed, some) in let more = k.log.calls.1 here in omega (arith, armed, more))
 
 pub returns-clause-told : goal.returns-clause-told
 returns-clause-told g c =
@@ -241,13 +211,9 @@ returns-clause-told g c =
     let channel = c.args.channel.now in
     let note = c.args.note.now in
     let bytes = c.args.bytes.now in
-    let side : ReceiverSide = c.kept_closed-kept.result in
-    let is : side ≡ c.args.side = c.kept_closed-kept.ensures in
-    let part = c.requires.side.part ∙ ap (λ (k : ReceiverSide). noted_change channel note (SetReceiver channel k.hardened)) (sym is) in
-    let up = mode_up (frozen_of x) x.mode (ap (λ (p : Plain). is_up p.running) plain ∙ c.requires.up) in
-    let w = (c.core.invariant.up up).ends in
-    let named = ap (λ (k : ReceiverSide). k.channel) is ∙ c.requires.side.named in
-    let live : is_live (receiver_in side.channel x.ends.receivers) ≡ true = ap (λ (n : List ℕ). is_live (receiver_in n x.ends.receivers)) named ∙ ap (λ (p : Plain). is_live (receiver_data channel p)) plain ∙ c.requires.live in
+    let side : ReceiverSide = c.of_closed-kept.result in
+    let is = c.of_closed-kept.ensures ∙ c.noted_receiver-side.ensures ∙ ap (noted_receiver c.args.channel.now c.args.note.now) plain in
+    let part = receiver_changed channel note side c.args.core.now.plain c.requires.receiver is in
     let e = with_receivers (set_receiver side y.ends.receivers) y.ends in
     let m = subst (IsAside x) (sym c.draw.ensures) (drawn_aside 34 x) in
     let r = note_record channel note in

@@ -1,76 +1,33 @@
-use Rattle.std.proofs.Common.{◌≡◌, ℕ, ◌∙◌, ap, subst, refl, arith}
-use Rattle.std.specs.Prelude.{List, Ok, Err}
-use Rattle.mq_base.specs.Outside.{Rose}
-use Rattle.mq_log.specs.State.{LogState, Appended}
-use Rattle.mq_log.specs.Force.{Stops}
+use Rattle.std.proofs.Common.{◌∙◌, ap, subst, sym}
+use Rattle.std.specs.Prelude.{List, Err}
 use Rattle.mq_calls.specs.Words.{set_sender}
 use Rattle.mq_calls.specs.declared.state.SenderSide.{SenderSide}
 use Rattle.mq_core.specs.declared.parts.ChannelEnds.{ChannelEnds}
 use Rattle.mq_core.specs.Views.{PartsValue}
 use Rattle.mq_core.specs.declared.parts.StoppedWrite.TheVariants as writes
-use Rattle.mq_core.specs.Forced.{downed}
+use Rattle.mq_agents.specs.Written.{Writes, with_senders}
+use Rattle.mq_agents.proofs.WriteLaws.{forced_written, not_forced}
 use Rattle.mq_agents.proofs.hardening.write_sender.Goals as goal
 
-roomier : LogState → ℕ → LogState
-roomier log n = record log { room = n }
-
 put_in : List SenderSide → ChannelEnds → ChannelEnds
-put_in sides e = record e { senders = sides }
+put_in sides e = with_senders sides e
 
-pub append_forced-requires-clause-live : goal.append_forced-requires-clause-live
-unfolding roomier
-append_forced-requires-clause-live g c =
-    let log = c.room.ensures.same ∙ ap (λ (p : PartsValue). roomier p.log c.room.new.self.room) c.parts.view_is in
-    ap (λ (l : LogState). l.live) log ∙ c.requires.live
-
-pub append_forced-requires-clause-room : goal.append_forced-requires-clause-room
-append_forced-requires-clause-room g c = omega (arith, c.in-Ok.ensures.ok)
-
-pub returns-in-Err-append_forced : goal.returns-in-Err-append_forced
-unfolding roomier put_in
-returns-in-Err-append_forced g c =
+pub returns-in-Err : goal.returns-in-Err
+unfolding put_in
+returns-in-Err g c =
     let x : PartsValue = c.args.parts.now in
     let seen = c.parts.view_is in
-    let new : LogState = c.append_forced.new.self in
-    let log : c.room.new.self ≡ roomier x.log c.room.new.self.room = c.room.ensures.same ∙ ap (λ (p : PartsValue). roomier p.log c.room.new.self.room) seen in
-    let failed = ap (λ (l : LogState). l.faults) log in
-    let a = c.in-Err-append_forced.ensures in
-    let stop = c.in-Err-append_forced.stop in
-    let sides = c.undo_side.ensures ∙ c.in-Ok-swap_side.ensures.undo.same ∙ ap (λ (p : PartsValue). p.ends.senders) seen in
-    record {
-      at = record x { log = new };
-      is = record {
-        same = refl;
-        log = subst (λ (l : LogState). Appended l c.args.bytes.now (Err stop) new) log a.appended;
-        calls = subst (λ (l : LogState). Stops l.armed (Err stop) new.armed) log a.ends;
-        room = tt;
-        enough = tt;
-        ends = tt;
-        later = omega (arith, failed, a.later);
-        disk = λ d. subst (λ (l : LogState). Rose l.faults new.faults) log (a.disk d);
-      };
-      down = c.go_down.ensures ∙ ap (λ (p : PartsValue). downed (writes.Hardened c.args.channel.now c.args.note.now) p) (λ i. record (seen i) { ends = put_in (sides i) (seen i).ends; log = new });
-    }
+    let made = put_in (set_sender c.args.side x.ends.senders) x.ends in
+    let u = c.in-Err.unwritten in
+    let sides = c.in-Err.ensures.forced.0 ∙ ap (λ (p : PartsValue). p.ends.senders) seen in
+    subst (Writes c.args.bytes.now made (writes.Hardened c.args.channel.now c.args.note.now) x (Err u)) (sym c.go_down_if.ensures)
+    (not_forced (writes.Hardened c.args.channel.now c.args.note.now) u c.args.bytes.now x _ made _ c.force_side.new.log seen (λ i. put_in (sides i) (seen i).ends) c.in-Err.ensures.forced.1)
 
 pub returns : goal.returns
-unfolding roomier put_in
+unfolding put_in
 returns g c =
     let x : PartsValue = c.args.parts.now in
     let seen = c.parts.view_is in
-    let new : LogState = c.append_forced.new.self in
-    let log : c.room.new.self ≡ roomier x.log c.room.new.self.room = c.room.ensures.same ∙ ap (λ (p : PartsValue). roomier p.log c.room.new.self.room) seen in
-    let had = ap (λ (p : PartsValue). p.log.room) seen in
-    let kept = ap (λ (l : LogState). l.reserved) log in
-    let failed = ap (λ (l : LogState). l.faults) log in
-    let a = c.in-Ok-append_forced.ensures in
-    let sides = c.in-Ok-swap_side.ensures.ok ∙ ap (λ (p : PartsValue). set_sender c.args.side p.ends.senders) seen in
-    record {
-      same = λ i. record (seen i) { ends = put_in (sides i) (seen i).ends; log = new };
-      log = subst (λ (l : LogState). Appended l c.args.bytes.now (Ok tt) new) log a.appended;
-      calls = subst (λ (l : LogState). Stops l.armed (Ok tt) new.armed) log a.ends;
-      room = omega (arith, a.room, c.room.ensures.room, had);
-      enough = omega (arith, a.room, c.in-Ok.ensures.ok, kept);
-      ends = c.requires.ends;
-      later = omega (arith, failed, a.later);
-      disk = λ d. subst (λ (l : LogState). Rose l.faults new.faults) log (a.disk d);
-    }
+    let w = c.in-Ok.ensures.forced in
+    let sides = w.1 ∙ ap (λ (p : PartsValue). set_sender c.args.side p.ends.senders) seen in
+    forced_written c.args.bytes.now x _ (put_in (set_sender c.args.side x.ends.senders) x.ends) _ c.force_side.new.log seen (λ i. put_in (sides i) (seen i).ends) c.requires.ends w.2

@@ -1,4 +1,4 @@
-use Rattle.std.proofs.Common.{◌≡◌, ◌+◌, ◌<◌, ◌∙◌, true, false, sym, ap, subst, refl, arith}
+use Rattle.std.proofs.Common.{◌≡◌, ◌<◌, ◌∙◌, true, false, sym, ap, subst, refl, arith}
 use Rattle.std.specs.Prelude.{List, [], ◌∷◌, ◌++◌, length, Some, Ok, Err}
 use Rattle.mq_calls.specs.Words.{ManagerValue, Plain, InDoubt, SenderData, Noted, Step, MeetsOrWants, Do, is_up, is_full, need, batch_of, sender_or, sender_data, logged, set_sender, apply}
 use Rattle.mq_calls.specs.declared.deltas.Did.{Did}
@@ -9,7 +9,7 @@ use Rattle.mq_calls.specs.State.Change.{DropBatch, SetSender}
 use Rattle.mq_calls.specs.Meeting.Wants.{Anywhere}
 use Rattle.mq_calls.specs.declared.deltas.Did.TheVariants as did
 use Rattle.mq_spec_manager.specs.Agents.{prepare}
-use Rattle.mq_unit.specs.Told.{Telling}
+use Rattle.mq_get.specs.from_unit.Told.{Telling}
 use Rattle.mq_core.specs.declared.parts.ChannelEnds.{ChannelEnds}
 use Rattle.mq_core.specs.declared.parts.StoppedWrite.TheVariants as writes
 use Rattle.mq_core.specs.Views.{PartsValue, plain_of, frozen_of}
@@ -147,8 +147,8 @@ returns-clause-meets g c =
     let nothing : Unit {0} = tt in
     subst (λ (s : Step PrepareFault (Unit {0})). MeetsOrWants (manager_of c.args.core.now) s (Ok nothing) new) (sym step)
     (wrote_as PrepareFault Anywhere (manager_of c.args.core.now) new nothing nothing r (doubt_changes channel d old) (did.Prepared channel d.unit ∷ []) refl done told (ap (λ (k : CoreValue). k.stopped) v)
-    (omega (arith, had, failed, w.later))
-    (λ some. let here : 0 < y.log.armed = omega (arith, before, some) in let more = w.calls.1 here in omega (arith, before, more)))
+    (omega (arith, had, failed, w.log.later))
+    (λ some. let here : 0 < y.log.armed = omega (arith, before, some) in let more = w.log.calls.1 here in omega (arith, before, more)))
 
 pub returns-in-Err-write_doubt-clause-told : goal.returns-in-Err-write_doubt-clause-told
 returns-in-Err-write_doubt-clause-told g c =
@@ -293,10 +293,3 @@ write_doubt-requires-clause-small g c =
     let fl = c.in-Ok-fill_prepared.ensures.ok in
     let long = ap length fl.bytes in
     omega (arith, long, fl.size, c.requires.few)
-
-pub write_doubt-requires-clause-room : goal.write_doubt-requires-clause-room
-write_doubt-requires-clause-room g c =
-    let fl = c.in-Ok-fill_prepared.ensures.ok in
-    let long = ap length fl.bytes in
-    let held = ap (λ (p : PartsValue). p.log.reserved) fl.roomy.same in
-    omega (arith, long, held, fl.size, fl.roomy.log)

@@ -8,7 +8,7 @@ use Rattle.mq_calls.specs.State.Change.{Release, DropBatch}
 use Rattle.mq_calls.specs.Meeting.Wants.{Nowhere}
 use Rattle.mq_spec_manager.specs.Words.{Never}
 use Rattle.mq_spec_manager.specs.Agents.{release_batch, release_of}
-use Rattle.mq_unit.specs.Told.{Telling}
+use Rattle.mq_get.specs.from_unit.Told.{Telling}
 use Rattle.mq_core.specs.Views.{PartsValue, plain_of, frozen_of}
 use Rattle.mq_core.specs.Ties.{Tied}
 use Rattle.mq_core.specs.Values.{CoreValue, manager_of, bodies_in}

@@ -21,7 +21,7 @@ use Rattle.mq_spec_manager.specs.Agents.{harden, held_on, held_rows, settle_chan
 use Rattle.mq_law_manager.specs.Facts.{Sound, AreNamed}
 use Rattle.mq_place.specs.States.{queues_of}
 use Rattle.mq_log.specs.State.{LogState}
-use Rattle.mq_unit.specs.Told.{Telling}
+use Rattle.mq_get.specs.from_unit.Told.{Telling}
 use Rattle.mq_core.specs.declared.parts.ChannelEnds.{ChannelEnds}
 use Rattle.mq_core.specs.declared.parts.StoppedWrite.TheVariants as writes
 use Rattle.mq_core.specs.Views.{PartsValue, plain_of, frozen_of}
@@ -558,7 +558,7 @@ invariant_of-core-2 g c =
     let shape : q.ends ≡ with_senders (set_sender side k.ends.senders) k.ends = ends ∙ ap (λ (n : ChannelEnds). with_senders (set_sender side n.senders) n) drawn in
     let less = c.listed_before-less.result in
     let new : PartsValue = c.free_rows.new.parts in
-    let spare : q.log.spare ≡ k.log.spare - drawn_need had = ap (λ (n : PartsValue). n.log.spare) c.settle_rows.ensures ∙ ap (λ (l : LogState). l.spare) w.log ∙ drawn_spare had k y c.draw_if.ensures in
+    let spare : q.log.spare ≡ k.log.spare - drawn_need had = ap (λ (n : PartsValue). n.log.spare) c.settle_rows.ensures ∙ ap (λ (l : LogState). l.spare) w.log.appended ∙ drawn_spare had k y c.draw_if.ensures in
     let room = ap (λ (n : PartsValue). n.log.room) c.free_rows.ensures in
     aside_tied q new (rows_aside q new (freed_room less q.ends.rows) c.free_rows.ensures) (omega (arith, room))
     (freed_ready less q new c.free_rows.ensures (subst (λ (n : ℕ). EndsReady (record q.ends { rows = freed_room less q.ends.rows }) n) (sym spare) (subst (λ (n : ChannelEnds). EndsReady (record n { rows = freed_room less n.rows }) (k.log.spare - drawn_need had)) (sym shape) freed.1)))
@@ -629,8 +629,8 @@ returns-clause-meets g c =
     let after : ManagerValue = record { plain = plain_of new; delta = c.tell.new.self.dids; stopped = c.core.inside.stopped; faults = new.log.faults } in
     subst (λ (s : Step Never (Unit {0})). MeetsOrWants (manager_of c.args.core.now) s (Ok nothing) after) (sym step)
     (wrote_as Never Anywhere (manager_of c.args.core.now) after nothing nothing r (settled_changes commit channel old) (settled_told commit operator channel unit rows) refl done told (ap (λ (n : CoreValue). n.stopped) v)
-    (omega (arith, had_, failed, w.later))
-    (λ some. let here : 0 < y.log.armed = omega (arith, armed, some) in let most = w.calls.1 here in omega (arith, armed, most)))
+    (omega (arith, had_, failed, w.log.later))
+    (λ some. let here : 0 < y.log.armed = omega (arith, armed, some) in let most = w.log.calls.1 here in omega (arith, armed, most)))
 
 pub returns-clause-told : goal.returns-clause-told
 returns-clause-told g c =

@@ -4,7 +4,7 @@ use Rattle.std.proofs.lemmas.Option.{slice_get_read}
 use Rattle.mq_disk.specs.declared.shelf.Side.TheVariants as sides
 use Rattle.mq_history.specs.declared.scenario.ManagerLine.{ManagerLine}
 use Rattle.mq_spec_manager.specs.Stops.{last_moment}
-use Rattle.mq_core.specs.Values.{CoreValue}
+use Rattle.mq_manager.specs.from_core.Values.{CoreValue}
 use Rattle.mq_begin.specs.declared.faults.NetFault.{NetFault}
 use Rattle.mq_begin.specs.Begun.{AllBegan, NotBegan}
 use Rattle.mq_begin.proofs.BeganLaws.{Beginning, all_began, begins_so, breaks_off, goes_on, log_low, moment_low, no_room_so}

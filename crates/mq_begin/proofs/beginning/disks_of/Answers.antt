@@ -1,5 +1,5 @@
 use Rattle.std.proofs.Common.{arith}
-use Rattle.mq_core.specs.Values.{CoreValue}
+use Rattle.mq_manager.specs.from_core.Values.{CoreValue}
 use Rattle.mq_begin.proofs.BeganLaws.{counts_on}
 use Rattle.mq_begin.proofs.beginning.disks_of.Goals as goal
 

@@ -1,6 +1,6 @@
 use Rattle.std.proofs.Common.{◌≡◌, ◌<◌, ◌+◌}
 use Rattle.std.specs.Prelude.{◌++◌, map, reverse, length, vec_len, vec_capacity}
-use Rattle.mq_core.specs.Values.{CoreValue}
+use Rattle.mq_manager.specs.from_core.Values.{CoreValue}
 use Rattle.mq_begin.proofs.beginning.disks_of.Given as goal
 
 abbrev pub invariant-loop-manager : goal.invariant-loop-manager

@@ -5,9 +5,9 @@ use Rattle.mq_calls.specs.declared.state.Connection.{Connection}
 use Rattle.mq_calls.specs.declared.state.Item.{Item}
 use Rattle.mq_calls.specs.declared.records.LogRecord.{LogRecord}
 use Rattle.mq_spec_manager.specs.Units.{adds_of, removes_of, record_of}
-use Rattle.mq_record.specs.Room.{Buffered}
-use Rattle.mq_record.proofs.SizeLaws.{record_whole}
-use Rattle.mq_unit.specs.Forced.{unit_record}
+use Rattle.mq_core.specs.from_record.Room.{Buffered}
+use Rattle.mq_core.proofs.from_record.SizeLaws.{record_whole}
+use Rattle.mq_core.specs.from_unit.Forced.{unit_record}
 use Rattle.mq_core.specs.Views.{PartsValue}
 use Rattle.mq_core.proofs.MeetLaws.{if_some, some_of}
 use Rattle.mq_core.proofs.ForceLaws.{forced_from}

@@ -2,7 +2,7 @@ use Rattle.std.proofs.Common.{drop}
 use Rattle.std.specs.List.{AllByRecursion}
 use Rattle.mq_objects.specs.Slots.{present}
 use Rattle.mq_objects.specs.Names.{locals_in}
-use Rattle.mq_core.specs.Views.{plain_of}
+use Rattle.mq_manager.specs.from_core.Views.{plain_of}
 use Rattle.mq_events.specs.Counts.{HasFew}
 use Rattle.mq_events.proofs.counting.are_few.Given as goal
 

@@ -1,5 +1,5 @@
 use Rattle.std.proofs.Common.{ap, sym, ◌∙◌, subst, take, Err}
-use Rattle.mq_base.specs.Name.{name_of, IsName}
+use Rattle.mq_message.specs.from_base.Name.{name_of, IsName}
 use Rattle.mq_frame.proofs.Names.{front_whole, front_bad}
 use Rattle.mq_frame.proofs.reading.name_len.Goals as goal
 

@@ -1,6 +1,6 @@
 use Rattle.std.proofs.Common.{ℕ, List, [], ◌∷◌, ◌++◌, ap, ◌∙◌}
 use Rattle.std.proofs.lemmas.Result.{on_ok_weaker}
-use Rattle.mq_base.specs.Name.{padded}
+use Rattle.mq_message.specs.from_base.Name.{padded}
 use Rattle.mq_frame.specs.Frames.{dest_bytes}
 use Rattle.mq_frame.proofs.Adding.{adds_one, adds_more}
 use Rattle.mq_frame.proofs.writing.push_dest.Goals as goal

@@ -2,7 +2,7 @@ use Rattle.std.proofs.Common.{List, ◌++◌, sym, ap, ◌∙◌}
 use Rattle.std.specs.Prelude.{map}
 use Rattle.std.specs.Option.{option_map}
 use Rattle.mq_spec_manager.specs.Words.{Scan}
-use Rattle.mq_place.specs.States.{state_in}
+use Rattle.mq_core.specs.from_place.States.{state_in}
 use Rattle.mq_scan.specs.declared.scanning.Met.{Met}
 use Rattle.mq_scan.specs.Scans.{scan_of, met_of}
 use Rattle.mq_core.specs.Views.{PartsValue, plain_of}

@@ -26,15 +26,15 @@ drop_rows-requires-clause-small g c = leaving_short c.args.queue.now c.args.mets
 pub drop_rows-requires-clause-told : goal.drop_rows-requires-clause-told
 drop_rows-requires-clause-told g c = let long = leaving_long c.args.queue.now c.args.mets.now c.in-Ok.leaving c.in-Ok.ensures in omega (arith, long, c.in-Ok-make_room.ensures.room)
 
-pub give_back-requires : goal.give_back-requires
-give_back-requires g c =
+pub return_room-requires : goal.return_room-requires
+return_room-requires g c =
     let after = drop_body c.args.queue.now c.in-Ok.leaving c.make_room.new.parts c.make_room.new.effects c.drop_rows.new.parts c.drop_rows.new.effects c.in-Ok-drop_rows.ensures in
     omega (arith, after, c.in-Ok-make_room.ensures.ok.body)
 
 pub returns-in-Ok-drop_rows : goal.returns-in-Ok-drop_rows
 returns-in-Ok-drop_rows g c =
-    cleared c.args.queue.now c.args.mets.now c.leaving_need-need.result c.args.parts.now c.make_room.new.parts c.drop_rows.new.parts c.give_back.new.parts c.make_room.new.effects c.drop_rows.new.effects c.in-Ok.leaving
-    c.in-Ok.ensures c.leaving_need-need.ensures (c.make_room.ensures.dids ∙ c.requires.told) c.requires.up c.requires.tied c.in-Ok-make_room.ensures.ok c.in-Ok-drop_rows.ensures c.give_back.ensures
+    cleared c.args.queue.now c.args.mets.now c.leaving_need-need.result c.args.parts.now c.make_room.new.parts c.drop_rows.new.parts c.return_room.new.parts c.make_room.new.effects c.drop_rows.new.effects c.in-Ok.leaving
+    c.in-Ok.ensures c.leaving_need-need.ensures (c.make_room.ensures.dids ∙ c.requires.told) c.requires.up c.requires.tied c.in-Ok-make_room.ensures.ok c.in-Ok-drop_rows.ensures c.return_room.ensures
 
 pub returns-in-Err-drop_rows : goal.returns-in-Err-drop_rows
 returns-in-Err-drop_rows g c =

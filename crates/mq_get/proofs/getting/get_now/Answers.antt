@@ -15,25 +15,23 @@ use Rattle.mq_get.proofs.getting.get_now.Goals as goal
 plain_is : {v w : CoreValue} → v ≡ w → v.plain ≡ w.plain
 plain_is e = ap (λ (x : CoreValue). x.plain) e
 
-pub do_get-result-requires-clause-up : goal.do_get-result-requires-clause-up
-do_get-result-requires-clause-up g c =
-    let plain = plain_is (c.core.view_is ∙ c.begin_call.ensures) in
+pub do_get-result-requires-clause-may : goal.do_get-result-requires-clause-may
+do_get-result-requires-clause-may g c =
+    let v = c.core.view_is ∙ c.begin_call.ensures in
+    let plain = plain_is v in
     let x : PartsValue = c.core.inside.parts in
-    mode_up (frozen_of x) x.mode (ap (λ (p : Plain). is_up p.running) plain ∙ c.requires.up)
+    record {
+      tied = c.core.invariant;
+      up = mode_up (frozen_of x) x.mode (ap (λ (p : Plain). is_up p.running) plain ∙ c.requires.up);
+      told = ap (λ (w : CoreValue). w.delta) v;
+      short = short_plan c.args.get.now c.args.aim.now (plain_of x) c.in-Ok.plan c.in-Ok.ensures
+          (subst (λ (p : Plain). expired_need (persistent_rows (look c.args.get.now c.args.aim.now p).expired) < 4294967296) (sym plain) c.requires.short);
+    }
 
 pub do_get-result-requires-clause-live : goal.do_get-result-requires-clause-live
 do_get-result-requires-clause-live g c =
     let plain = plain_is (c.core.view_is ∙ c.begin_call.ensures) in
     subst (λ (p : Plain). IsSome (connection_at c.args.number p.connections)) (sym plain) c.requires.live
-
-pub do_get-result-requires-clause-told : goal.do_get-result-requires-clause-told
-do_get-result-requires-clause-told g c = ap (λ (w : CoreValue). w.delta) (c.core.view_is ∙ c.begin_call.ensures)
-
-pub do_get-result-requires-clause-short : goal.do_get-result-requires-clause-short
-do_get-result-requires-clause-short g c =
-    let plain = plain_is (c.core.view_is ∙ c.begin_call.ensures) in
-    short_plan c.args.get.now c.args.aim.now (plain_of c.core.inside.parts) c.in-Ok.plan c.in-Ok.ensures
-    (subst (λ (p : Plain). expired_need (persistent_rows (look c.args.get.now c.args.aim.now p).expired) < 4294967296) (sym plain) c.requires.short)
 
 pub returns : goal.returns
 returns g c =

@@ -8,9 +8,9 @@ use Rattle.mq_calls.specs.declared.records.LogRecord.{LogRecord}
 use Rattle.mq_calls.specs.declared.records.LogRecord.TheVariants as records
 use Rattle.mq_log.specs.State.{LogState, Appended}
 use Rattle.mq_log.specs.Force.{Stops}
-use Rattle.mq_record.specs.Records.{record_bytes, unit_front, remove_bytes}
-use Rattle.mq_record.specs.Room.{Buffered}
-use Rattle.mq_record.proofs.SizeLaws.{record_whole}
+use Rattle.mq_unit.specs.from_record.Records.{record_bytes, unit_front, remove_bytes}
+use Rattle.mq_unit.specs.from_record.Room.{Buffered}
+use Rattle.mq_unit.proofs.from_record.SizeLaws.{record_whole}
 use Rattle.mq_core.specs.Views.{PartsValue}
 use Rattle.mq_core.proofs.RoomLaws.{with_parts}
 use Rattle.mq_get.proofs.LoopLaws.{record_pieces, record_are, removes_record}

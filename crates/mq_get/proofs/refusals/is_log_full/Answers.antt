@@ -1,6 +1,6 @@
 use Rattle.std.proofs.Common.{sym, ap, ◌∙◌, arith}
 use Rattle.mq_spec_manager.specs.Words.{Scan, persistent_rows}
-use Rattle.mq_place.specs.States.{state_in}
+use Rattle.mq_core.specs.from_place.States.{state_in}
 use Rattle.mq_scan.specs.Scans.{scan_of}
 use Rattle.mq_core.specs.Views.{PartsValue, plain_of}
 use Rattle.mq_get.proofs.SurveyLaws.{none_full, look_some, many_by, full_is}

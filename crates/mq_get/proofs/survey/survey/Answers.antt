@@ -1,6 +1,6 @@
 use Rattle.std.proofs.Common.{◌∙◌, length, sym, ap}
 use Rattle.mq_spec_manager.specs.Words.{Scan, any_id, persistent_rows}
-use Rattle.mq_place.specs.States.{rows_after}
+use Rattle.mq_core.specs.from_place.States.{rows_after}
 use Rattle.mq_scan.proofs.ScanLaws.{told, asked_under, asked_ids, under_looked, start_looked}
 use Rattle.mq_get.proofs.survey.survey.Goals as goal
 

@@ -1,6 +1,6 @@
 use Rattle.std.proofs.Common.{◌≡◌, ◌+◌, ◌≤◌, length}
 use Rattle.mq_spec_manager.specs.Words.{persistent_rows}
-use Rattle.mq_place.specs.States.{rows_after}
+use Rattle.mq_core.specs.from_place.States.{rows_after}
 use Rattle.mq_scan.proofs.ScanLaws.{scan_after}
 use Rattle.mq_get.proofs.survey.survey_from.Given as goal
 

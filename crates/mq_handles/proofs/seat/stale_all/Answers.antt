@@ -2,7 +2,8 @@ use Rattle.std.proofs.Common.{◌≡◌, ◌<◌, ◌++◌, length, take, drop, 
 use Rattle.std.specs.Prelude.{map}
 use Rattle.mq_calls.specs.Words.{stale_if, has_step}
 use Rattle.mq_calls.specs.declared.state.Handle.{Handle}
-use Rattle.mq_handles.proofs.CountLaws.{got, mapped_next, mapped_all}
+use Rattle.mq_base.proofs.MapLaws.{mapped_next, mapped_all}
+use Rattle.mq_handles.proofs.CountLaws.{got}
 use Rattle.mq_handles.proofs.seat.stale_all.Goals as goal
 
 pub loop-at-preserved : goal.loop-at-preserved

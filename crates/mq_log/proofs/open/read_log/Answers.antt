@@ -1,4 +1,4 @@
-use Rattle.std.proofs.Common.{◌≡◌, ◌-◌, ◌+◌, ℕ, List, [], length, take, vec_len, refl, sym, ◌∙◌, ap, subst, arith, rules}
+use Rattle.std.proofs.Common.{◌≡◌, ◌-◌, ◌+◌, ℕ, List, [], length, take, vec_len, refl, sym, ◌∙◌, ap, subst, arith}
 use Rattle.std.proofs.lemmas.List.{length-take}
 use Rattle.mq_log.specs.Bodies.{IsLog}
 use Rattle.mq_log.proofs.Scanned.{framed_by}
@@ -8,9 +8,9 @@ use Rattle.mq_log.proofs.open.read_log.Goals as goal
 
 pub reading-init : goal.reading-init
 reading-init g c =
-    let none : c.new-bytes.result.items ≡ [] = search rules in
+    let none : c.with_room-bytes.result.items ≡ [] = c.with_room-bytes.ensures.items in
     record {
-      front = framed_by [] 0 c.new-bytes.result.items tt refl;
+      front = framed_by [] 0 c.with_room-bytes.result.items tt refl;
       at = omega arith;
       left = omega (arith, ap length none);
       read = λ t. none ∙ sym (ap (λ (l : List ℕ). take (length l) (g.D.Disk.seen c.args.disk.now.inner)) none);

@@ -4,10 +4,10 @@ use Rattle.std.proofs.lemmas.List.{length-append}
 use Rattle.mq_calls.specs.declared.records.LogRecord.{LogRecord}
 use Rattle.mq_calls.specs.declared.records.LogRecord.TheVariants as records
 use Rattle.mq_frame.specs.Frames.{message_bytes}
-use Rattle.mq_record.specs.Room.{Buffered}
-use Rattle.mq_record.proofs.SizeLaws.{record_whole}
-use Rattle.mq_core.specs.Views.{PartsValue}
-use Rattle.mq_core.proofs.ForceLaws.{forced_from}
+use Rattle.mq_agents.specs.from_record.Room.{Buffered}
+use Rattle.mq_agents.proofs.from_record.SizeLaws.{record_whole}
+use Rattle.mq_agents.specs.from_core.Views.{PartsValue}
+use Rattle.mq_agents.proofs.from_core.ForceLaws.{forced_from}
 use Rattle.mq_moves.proofs.MoveLaws.{moved_are}
 use Rattle.mq_moves.proofs.moving.force_moved.Goals as goal
 

@@ -4,7 +4,7 @@ use Rattle.mq_resolve.specs.Resolved.{resolve}
 use Rattle.mq_calls.specs.Words.{Message, PathStep, Route, refusal, local_of}
 use Rattle.mq_spec_manager.specs.Words.{queue_at}
 use Rattle.mq_spec_manager.specs.Agents.{route_tests}
-use Rattle.mq_core.specs.Views.{PartsValue, plain_of}
+use Rattle.mq_agents.specs.from_core.Views.{PartsValue, plain_of}
 use Rattle.mq_moves.specs.Moving.{moved_step}
 use Rattle.mq_moves.specs.Landed.{route_by}
 use Rattle.mq_moves.proofs.LandLaws.{unresolved, move_refused, move_at_last, defined_at, message_there, same_ident_there}

@@ -1,7 +1,7 @@
 use Rattle.std.proofs.Common.{ap, sym, subst, ◌∙◌}
 use Rattle.mq_calls.specs.Words.{is_up}
 use Rattle.mq_spec_manager.specs.Agents.{CanMove}
-use Rattle.mq_core.specs.Values.{CoreValue}
+use Rattle.mq_agents.specs.from_core.Values.{CoreValue}
 use Rattle.mq_moves.proofs.rules.move_row.Goals as goal
 
 pub can_move-requires-clause-up : goal.can_move-requires-clause-up

@@ -1,7 +1,7 @@
 use Rattle.std.proofs.Common.{sym, ap, ◌∙◌}
 use Rattle.mq_queue.specs.Queues.{message_of}
-use Rattle.mq_place.specs.States.{rows_in}
-use Rattle.mq_core.specs.Views.{PartsValue, plain_of}
+use Rattle.mq_agents.specs.from_place.States.{rows_in}
+use Rattle.mq_agents.specs.from_core.Views.{PartsValue, plain_of}
 use Rattle.mq_moves.proofs.LandLaws.{bare_dead}
 use Rattle.mq_moves.proofs.rules.moved_message.Goals as goal
 

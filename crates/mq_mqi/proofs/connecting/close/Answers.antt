@@ -6,7 +6,7 @@ use Rattle.mq_calls.specs.Meeting.Wants.{Nowhere}
 use Rattle.mq_calls.specs.State.Change.{CloseHandle}
 use Rattle.mq_spec_manager.specs.Words.{close_up}
 use Rattle.mq_calls.specs.declared.answers.Answer.TheVariants as answers
-use Rattle.mq_handles.specs.Seats.{closed}
+use Rattle.mq_core.specs.from_handles.Seats.{closed}
 use Rattle.mq_core.specs.Views.{PartsValue, plain_of, frozen_of}
 use Rattle.mq_core.specs.Calls.{HasHandle}
 use Rattle.mq_core.proofs.SeatLaws.{tied_seated}

@@ -2,7 +2,7 @@ use Rattle.std.proofs.Common.{◌≡◌, ◌+◌, ap, ◌∙◌}
 use Rattle.mq_calls.specs.Words.{Plain, is_up, connection_at, change_connection}
 use Rattle.mq_calls.specs.declared.state.Connection.{Connection}
 use Rattle.mq_spec_manager.specs.Words.{new_handle, open_step}
-use Rattle.mq_handles.specs.Seats.{opened}
+use Rattle.mq_core.specs.from_handles.Seats.{opened}
 use Rattle.mq_core.specs.Views.{PartsValue, plain_of, frozen_of}
 use Rattle.mq_core.proofs.SeatLaws.{tied_seated}
 use Rattle.mq_core.proofs.MeetLaws.{some_is, if_some, mode_up, changed_view, opened_as}

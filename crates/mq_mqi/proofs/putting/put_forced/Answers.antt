@@ -11,7 +11,7 @@ use Rattle.mq_core.specs.Counting.{CanCount}
 use Rattle.mq_calls.specs.State.Change.{CountIdent}
 use Rattle.mq_spec_manager.specs.Words.{next_ident, placed}
 use Rattle.mq_calls.specs.declared.deltas.Did.TheVariants as did
-use Rattle.mq_unit.specs.Told.{Telling}
+use Rattle.mq_core.specs.from_unit.Told.{Telling}
 use Rattle.mq_core.specs.Views.{PartsValue, plain_of, frozen_of}
 use Rattle.mq_core.specs.Writes.{added, now_part}
 use Rattle.mq_core.specs.Calls.{now_step}

@@ -2,14 +2,15 @@ use Rattle.std.proofs.Common.{rules, ap, arith}
 use Rattle.std.specs.Prelude.{is_some}
 use Rattle.std.specs.Map.{lookup}
 use Rattle.mq_message.specs.declared.message.Ident.{Ident}
-use Rattle.mq_shelves.specs.Spots.{key_of, same_key, is_met}
+use Rattle.mq_queue.specs.Rows.{same_ident}
+use Rattle.mq_shelves.specs.Spots.{is_met}
 use Rattle.mq_net_apart.proofs.TwiceLaws.{met_step, twice_step, twice_end}
 use Rattle.mq_net_apart.proofs.twice.twice_of.Goals as goal
 
 pub loop-ident-init : goal.loop-ident-init
 loop-ident-init c = record {
-  met = λ (k : Ident). ap (λ es. is_some (lookup (same_key (key_of k)) es)) c.new-met.ensures.empty;
-  twice = λ (k : Ident). ap (λ es. is_some (lookup (same_key (key_of k)) es)) c.new-twice.ensures.empty;
+  met = λ (k : Ident). ap (λ es. is_some (lookup (same_ident k) es)) c.new-met.ensures.empty;
+  twice = λ (k : Ident). ap (λ es. is_some (lookup (same_ident k) es)) c.new-twice.ensures.empty;
 }
 
 pub loop-ident-preserved : goal.loop-ident-preserved

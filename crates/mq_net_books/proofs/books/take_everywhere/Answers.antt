@@ -3,7 +3,7 @@ use Rattle.std.specs.Prelude.{map, not}
 use Rattle.mq_queue.specs.declared.row.Row.{Row}
 use Rattle.mq_history.specs.declared.story.ManagerPlaces.{ManagerPlaces}
 use Rattle.mq_spec_network.specs.Ledger.{is_one_of, leave_queues}
-use Rattle.mq_net_rows.proofs.StoreLaws.{mapped_next, mapped_all, mapped_long}
+use Rattle.mq_base.proofs.MapLaws.{mapped_next, mapped_all, mapped_long}
 use Rattle.mq_net_books.proofs.books.take_everywhere.Goals as goal
 
 pub at_mut-requires : goal.at_mut-requires

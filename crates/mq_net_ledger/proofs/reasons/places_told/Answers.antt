@@ -1,5 +1,5 @@
 use Rattle.std.proofs.Common.{◌≡◌, ◌+◌, ◌-◌, subst, arith}
-use Rattle.mq_net_rows.specs.Homes.{home_of}
+use Rattle.mq_net_apart.specs.from_net_rows.Homes.{home_of}
 use Rattle.mq_net_ledger.specs.Reasons.{AreTo}
 use Rattle.mq_net_ledger.proofs.ReasonLaws.{told_next}
 use Rattle.mq_net_ledger.proofs.reasons.places_told.Goals as goal

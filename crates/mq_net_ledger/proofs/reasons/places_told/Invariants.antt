@@ -1,4 +1,4 @@
-use Rattle.mq_net_rows.specs.Homes.{home_of}
+use Rattle.mq_net_apart.specs.from_net_rows.Homes.{home_of}
 use Rattle.mq_net_ledger.specs.Reasons.{AreTo}
 use Rattle.mq_net_ledger.proofs.reasons.places_told.Given as goal
 

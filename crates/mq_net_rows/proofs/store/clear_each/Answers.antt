@@ -3,7 +3,7 @@ use Rattle.std.specs.Prelude.{map, not}
 use Rattle.mq_queue.specs.declared.row.Row.{Row}
 use Rattle.mq_queue.specs.Rows.{has_ident}
 use Rattle.mq_net_rows.specs.Stored.{kept_slot}
-use Rattle.mq_net_rows.proofs.StoreLaws.{mapped_next, mapped_all, mapped_long}
+use Rattle.mq_base.proofs.MapLaws.{mapped_next, mapped_all, mapped_long}
 use Rattle.mq_net_rows.proofs.store.clear_each.Goals as goal
 
 pub at_mut-requires : goal.at_mut-requires

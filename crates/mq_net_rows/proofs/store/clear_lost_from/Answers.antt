@@ -3,7 +3,8 @@ use Rattle.std.specs.Prelude.{map}
 use Rattle.mq_queue.specs.declared.row.Row.{Row}
 use Rattle.mq_queue.specs.Rows.{is_persistent}
 use Rattle.mq_net_rows.specs.Stored.{kept_slot}
-use Rattle.mq_net_rows.proofs.StoreLaws.{lasting_start, mapped_next, mapped_all, mapped_long}
+use Rattle.mq_base.proofs.MapLaws.{mapped_next, mapped_all, mapped_long}
+use Rattle.mq_net_rows.proofs.StoreLaws.{lasting_start}
 use Rattle.mq_net_rows.proofs.store.clear_lost_from.Goals as goal
 
 pub at_mut-requires : goal.at_mut-requires

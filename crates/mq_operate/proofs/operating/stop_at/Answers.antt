@@ -1,5 +1,5 @@
 use Rattle.std.proofs.Common.{subst}
-use Rattle.mq_events.specs.States.{node_in}
+use Rattle.mq_turn_parts.specs.from_events.States.{node_in}
 use Rattle.mq_operate.specs.declared.places.Place.{Place}
 use Rattle.mq_operate.specs.Places.{IsPlace}
 use Rattle.mq_operate.proofs.PlacedLaws.{stop_absent}

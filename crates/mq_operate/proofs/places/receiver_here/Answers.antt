@@ -1,5 +1,5 @@
 use Rattle.std.proofs.Common.{sym}
-use Rattle.mq_events.specs.States.{node_in}
+use Rattle.mq_turn_parts.specs.from_events.States.{node_in}
 use Rattle.mq_operate.proofs.PlaceLaws.{no_receiver_here}
 use Rattle.mq_operate.proofs.ReceiverLaws.{receiver_here}
 use Rattle.mq_operate.proofs.places.receiver_here.Goals as goal

@@ -1,7 +1,7 @@
 use Rattle.std.proofs.Common.{subst}
 use Rattle.std.specs.Prelude.{IfSome}
 use Rattle.mq_spec_node.specs.Words.{ReceiverEnd}
-use Rattle.mq_events.specs.States.{NodeState}
+use Rattle.mq_turn_parts.specs.from_events.States.{NodeState}
 use Rattle.mq_operate.specs.declared.places.Seat.{Seat}
 use Rattle.mq_operate.specs.Places.{IsSeatAt}
 use Rattle.mq_operate.proofs.places.seat_here.Goals as goal

@@ -1,4 +1,4 @@
-use Rattle.mq_events.specs.States.{node_in}
+use Rattle.mq_turn_parts.specs.from_events.States.{node_in}
 use Rattle.mq_operate.proofs.PlaceLaws.{sender_here}
 use Rattle.mq_operate.proofs.places.sender_here.Goals as goal
 

@@ -3,12 +3,12 @@ use Rattle.std.specs.Prelude.{None, Some, Err}
 use Rattle.mq_calls.specs.declared.agents.SeizeFault.{SeizeFault}
 use Rattle.mq_calls.specs.declared.agents.SeizeFault.TheVariants as faults
 use Rattle.mq_history.specs.declared.acts.OpRefusal.TheVariants as reasons
-use Rattle.mq_agents.specs.Ends.{by_seize}
+use Rattle.mq_turn_parts.specs.from_agents.Ends.{by_seize}
 use Rattle.mq_core.specs.Values.{manager_of}
 use Rattle.mq_calls.specs.Meeting.{MeetsAs}
 use Rattle.mq_calls.specs.Meeting.Wants.{Anywhere}
 use Rattle.mq_spec_manager.specs.Agents.{seize}
-use Rattle.mq_turns.proofs.PartLaws.{want_made}
+use Rattle.mq_turn_parts.proofs.PartLaws.{want_made}
 use Rattle.mq_operate.proofs.StartLaws.{sought_ran, sought_refused}
 use Rattle.mq_operate.proofs.senders.sought.Goals as goal
 

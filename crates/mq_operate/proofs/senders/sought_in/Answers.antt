@@ -1,7 +1,7 @@
 use Rattle.std.proofs.Common.{subst}
 use Rattle.mq_spec_manager.specs.Agents.{seize}
 use Rattle.mq_spec_node.specs.Words.{SenderEnd}
-use Rattle.mq_events.specs.States.{NodeState}
+use Rattle.mq_turn_parts.specs.from_events.States.{NodeState}
 use Rattle.mq_operate.specs.Senders.{SoughtOr}
 use Rattle.mq_operate.proofs.senders.sought_in.Goals as goal
 

@@ -12,7 +12,7 @@ use Rattle.mq_receive.specs.Filling.{CanStand}
 use Rattle.mq_receive.specs.Placed.{AreLanding, IsAwaited}
 use Rattle.mq_receive.specs.Committed.{batch_record, batch_part, with_side, WritesBatch}
 use Rattle.mq_calls.specs.declared.state.ReceiverSide.{ReceiverSide}
-use Rattle.mq_get.proofs.PathLaws.{more_same}
+use Rattle.mq_moves.proofs.from_get.PathLaws.{more_same}
 use Rattle.mq_receive.proofs.CommitLaws.{unchanged, way_lands, done}
 use Rattle.mq_receive.proofs.BrokenLaws.{not_written}
 use Rattle.mq_receive.proofs.committing.commit.Goals as goal

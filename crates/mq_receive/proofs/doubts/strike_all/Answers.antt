@@ -2,7 +2,7 @@ use Rattle.std.proofs.Common.{◌≡◌, ◌<◌, ◌++◌, List, length, take, 
 use Rattle.std.specs.Prelude.{map}
 use Rattle.mq_calls.specs.Words.{off_list}
 use Rattle.mq_calls.specs.declared.state.SenderSide.{SenderSide}
-use Rattle.mq_handles.proofs.CountLaws.{mapped_next, mapped_all, mapped_long}
+use Rattle.mq_base.proofs.MapLaws.{mapped_next, mapped_all, mapped_long}
 use Rattle.mq_receive.proofs.doubts.strike_all.Goals as goal
 
 pub at_mut-requires : goal.at_mut-requires

@@ -1,6 +1,6 @@
 use Rattle.std.proofs.Common.{sym, ap, subst, ◌∙◌}
 use Rattle.std.specs.Prelude.{option_map, option_copied}
-use Rattle.mq_place.specs.States.{Located, row_at, state_in, AreApart}
+use Rattle.mq_core.specs.from_place.States.{Located, row_at, state_in, AreApart}
 use Rattle.mq_core.specs.Views.{PartsValue}
 use Rattle.mq_receive.proofs.HomeLaws.{stands_apart, no_state, no_row, stands_in_row}
 use Rattle.mq_receive.proofs.idents.standing.Goals as goal

@@ -3,7 +3,7 @@ use Rattle.std.specs.Prelude.{[], Err}
 use Rattle.mq_calls.specs.Words.{MeetsOrWants, Reason, Step}
 use Rattle.mq_spec_manager.specs.Agents.{landed}
 use Rattle.mq_law_manager.specs.Facts.{Sound, AreNamed}
-use Rattle.mq_agents.specs.Ends.{by_place}
+use Rattle.mq_moves.specs.from_agents.Ends.{by_place}
 use Rattle.mq_core.specs.Values.{CoreValue, WritesLog, manager_of}
 use Rattle.mq_receive.specs.Planned.{IsPlan, Plans}
 use Rattle.mq_receive.proofs.PlanLaws.{plan_last}

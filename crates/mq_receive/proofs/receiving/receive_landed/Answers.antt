@@ -4,7 +4,7 @@ use Rattle.std.specs.List.{AllByRecursion}
 use Rattle.mq_codes.specs.declared.reason.Reason.TheVariants as reasons
 use Rattle.mq_calls.specs.Words.{MeetsOrWants, Reason, Step, is_full, is_up, need}
 use Rattle.mq_spec_manager.specs.Agents.{receive_landed}
-use Rattle.mq_agents.specs.Ends.{by_place}
+use Rattle.mq_moves.specs.from_agents.Ends.{by_place}
 use Rattle.mq_core.specs.declared.parts.Arrival.{Arrival}
 use Rattle.mq_core.specs.Values.{CoreValue, WritesLog, manager_of}
 use Rattle.mq_core.specs.Views.{plain_of}

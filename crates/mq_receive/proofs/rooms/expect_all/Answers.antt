@@ -1,5 +1,5 @@
 use Rattle.std.proofs.Common.{ap, sym, take, ◌∙◌}
-use Rattle.mq_place.specs.States.{QueueStates, change_state, expecting}
+use Rattle.mq_core.specs.from_place.States.{QueueStates, change_state, expecting}
 use Rattle.mq_core.specs.declared.parts.Arrival.{Arrival}
 use Rattle.mq_receive.specs.Placed.{unexpected_in}
 use Rattle.mq_receive.proofs.ExpectLaws.{expected_next, expected_undone}

@@ -3,7 +3,7 @@ use Rattle.std.specs.List.{list_all}
 use Rattle.std.proofs.lemmas.List.Folds.{list_all-map}
 use Rattle.mq_calls.specs.declared.records.Add.{Add}
 use Rattle.mq_calls.specs.declared.records.LogRecord.{LogRecord}
-use Rattle.mq_spec_log.specs.Applies.{idents_in}
+use Rattle.mq_recover_read.specs.from_spec_log.Applies.{idents_in}
 use Rattle.mq_recover.specs.Recovering.{was_given_by}
 use Rattle.mq_recover.proofs.bounds.were_given.Goals as goal
 

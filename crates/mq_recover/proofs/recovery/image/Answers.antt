@@ -1,7 +1,7 @@
 use Rattle.std.proofs.Common.{◌≡◌, true, ℕ, sym, subst, ◌∙◌, arith}
 use Rattle.std.specs.Prelude.{Result, Ok, Err}
 use Rattle.mq_calls.specs.declared.image.Image.{Image}
-use Rattle.mq_spec_log.specs.Bodies.{image}
+use Rattle.mq_recover_read.specs.from_spec_log.Bodies.{image}
 use Rattle.mq_recover.specs.Found.{start_in, Told}
 use Rattle.mq_recover.proofs.WalkLaws.{image_begun, fault_given, image_given}
 use Rattle.mq_recover.proofs.recovery.image.Goals as goal

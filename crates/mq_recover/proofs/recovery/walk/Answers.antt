@@ -1,7 +1,7 @@
 use Rattle.std.proofs.Common.{subst}
 use Rattle.std.specs.Prelude.{Ok, Err}
 use Rattle.mq_calls.specs.declared.image.Image.{Image}
-use Rattle.mq_spec_log.specs.Bodies.{image_from}
+use Rattle.mq_recover_read.specs.from_spec_log.Bodies.{image_from}
 use Rattle.mq_recover.specs.Found.{start_in, given_as, Told}
 use Rattle.mq_recover.proofs.recovery.walk.Goals as goal
 

@@ -1,7 +1,7 @@
 use Rattle.std.proofs.Common.{◌≡◌, true, refl, sym, ◌∙◌, arith}
-use Rattle.mq_spec_log.specs.Applies.{applies}
-use Rattle.mq_spec_log.specs.Records.{doing}
-use Rattle.mq_spec_log.specs.Bodies.{record_of}
+use Rattle.mq_recover_read.specs.from_spec_log.Applies.{applies}
+use Rattle.mq_recover_read.specs.from_spec_log.Records.{doing}
+use Rattle.mq_recover_read.specs.from_spec_log.Bodies.{record_of}
 use Rattle.mq_recover.specs.Recovering.{seen}
 use Rattle.mq_recover.specs.Found.{start_in, given_as}
 use Rattle.mq_recover.proofs.WalkLaws.{went_on, behind_on, did}

@@ -1,5 +1,5 @@
 use Rattle.std.proofs.Common.{◌≡◌, sym, ap, subst, ◌∙◌, arith, Err}
-use Rattle.mq_record.specs.Reading.{Tells}
+use Rattle.mq_spec_log.specs.from_record.Reading.{Tells}
 use Rattle.mq_spec_log.specs.Texts.{change_in}
 use Rattle.mq_spec_log.specs.Bodies.{changing, meaning, record_of}
 use Rattle.mq_recover_read.proofs.BodyLaws.{body_means, body_is_none}

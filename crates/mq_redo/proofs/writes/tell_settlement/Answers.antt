@@ -1,5 +1,5 @@
 use Rattle.std.proofs.Common.{ap}
-use Rattle.mq_unit.specs.Told.{Telling}
+use Rattle.mq_core.specs.from_unit.Told.{Telling}
 use Rattle.mq_core.specs.Views.{plain_of, frozen_of}
 use Rattle.mq_redo.proofs.WriteLaws.{told_settled}
 use Rattle.mq_redo.proofs.writes.tell_settlement.Goals as goal

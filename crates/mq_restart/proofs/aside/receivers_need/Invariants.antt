@@ -1,7 +1,7 @@
 use Rattle.std.proofs.Common.{◌≡◌, take}
 use Rattle.std.specs.Prelude.{sum_by}
 use Rattle.mq_calls.specs.declared.state.ReceiverSide.{ReceiverSide}
-use Rattle.mq_core.specs.Ties.{session_bytes}
+use Rattle.mq_redo.specs.from_core.Ties.{session_bytes}
 use Rattle.mq_restart.proofs.aside.receivers_need.Given as goal
 
 abbrev pub invariant-loop-kept : goal.invariant-loop-kept

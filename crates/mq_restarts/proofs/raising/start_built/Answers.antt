@@ -1,8 +1,8 @@
 use Rattle.std.proofs.Common.{ap, refl, length, ◌∙◌, ◌+◌}
 use Rattle.std.specs.Prelude.{Err}
 use Rattle.mq_disk.specs.declared.cutter.Stop.{Stop}
-use Rattle.mq_record.proofs.SizeLaws.{record_whole}
-use Rattle.mq_spec_manager.specs.Stops.{started_record}
+use Rattle.mq_restart.proofs.from_record.SizeLaws.{record_whole}
+use Rattle.mq_restart.specs.from_spec_manager.Stops.{started_record}
 use Rattle.mq_restart.specs.Begun.{given_by}
 use Rattle.mq_restart.proofs.AgainLaws.{is_raised, is_unraised}
 use Rattle.mq_restarts.proofs.raising.start_built.Goals as goal

@@ -1,8 +1,8 @@
 use Rattle.std.proofs.Common.{ℕ, ◌-◌, ap, refl, ◌∙◌}
 use Rattle.std.specs.Prelude.{Some, None}
-use Rattle.mq_unit.specs.Told.{Telling}
-use Rattle.mq_core.specs.Values.{CoreValue}
-use Rattle.mq_core.specs.Views.{PartsValue, plain_of}
+use Rattle.mq_restart.specs.from_unit.Told.{Telling}
+use Rattle.mq_restart.specs.from_core.Values.{CoreValue}
+use Rattle.mq_restart.specs.from_core.Views.{PartsValue, plain_of}
 use Rattle.mq_restart.specs.Stands.{read_up}
 use Rattle.mq_restarts.proofs.BackLaws.{coming_as, comes_own, comes_own_stands, comes_own_tied, comes_far, comes_far_stands, comes_far_tied, stays_starts, stays_tied, stays_stayed, stays_stands, stays_later}
 use Rattle.mq_restarts.proofs.restarting.return_from.Goals as goal

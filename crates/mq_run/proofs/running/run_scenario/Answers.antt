@@ -1,7 +1,7 @@
 use Rattle.std.proofs.Common.{◌∙◌, ap, map, subst, sym}
 use Rattle.std.specs.Io.KnownBytes.{Keeps}
 use Rattle.mq_disk.specs.declared.shelf.Side.TheVariants as sides
-use Rattle.mq_begin.specs.Begun.{moment_or}
+use Rattle.mq_world.specs.from_begin.Begun.{moment_or}
 use Rattle.mq_spec_network.specs.Apart.{apart}
 use Rattle.mq_world.specs.Words.{Began, RestState}
 use Rattle.mq_run.specs.Ends.{NoneEnds}

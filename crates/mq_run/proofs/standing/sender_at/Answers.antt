@@ -1,7 +1,7 @@
 use Rattle.std.specs.Prelude.{Option}
 use Rattle.std.proofs.Common.{ap, ◌∙◌}
 use Rattle.mq_spec_node.specs.Words.{Node}
-use Rattle.mq_standing.specs.Stands.{sender_standing}
+use Rattle.mq_law_ran.specs.from_standing.Stands.{sender_standing}
 use Rattle.mq_world.specs.Words.{RestState}
 use Rattle.mq_run.proofs.RestLaws.{no_node, none_at, one_at, one_node}
 use Rattle.mq_run.proofs.standing.sender_at.Goals as goal

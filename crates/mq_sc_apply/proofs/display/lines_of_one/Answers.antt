@@ -1,5 +1,5 @@
 use Rattle.std.proofs.Common.{◌≡◌, ℕ, List, Some, None, [], ◌∷◌, ◌++◌, filter, sym, ap, ◌∙◌}
-use Rattle.mq_objects.specs.Names.{space_in, is_object}
+use Rattle.mq_calls.specs.from_objects.Names.{space_in, is_object}
 use Rattle.mq_sc_apply.specs.Displayed.{searched_space, lines_of}
 use Rattle.mq_sc_apply.proofs.LineLemmas.{lines_of-named}
 use Rattle.mq_sc_apply.proofs.display.lines_of_one.Goals as goal

@@ -1,8 +1,8 @@
 use Rattle.std.proofs.Common.{◌≡◌, ℕ, List, ap, ◌∙◌}
 use Rattle.std.specs.Prelude.{codes}
-use Rattle.mq_objects.specs.declared.text.Style.TheVariants.{Shown}
-use Rattle.mq_objects.specs.Attributes.{in_brackets}
-use Rattle.mq_objects.proofs.WrittenLemmas.{put_all-styled}
+use Rattle.mq_calls.specs.from_objects.StyleVariants.{Shown}
+use Rattle.mq_calls.specs.from_objects.Attributes.{in_brackets}
+use Rattle.mq_calls.proofs.from_objects.WrittenLemmas.{put_all-styled}
 use Rattle.mq_sc_apply.specs.Displayed.{line_of, manager_shown}
 use Rattle.mq_sc_apply.proofs.display.manager_line.Goals as goal
 

@@ -1,5 +1,5 @@
 use Rattle.std.proofs.Common.{◌≡◌, ◌++◌, drop}
-use Rattle.mq_objects.specs.Slots.{present}
+use Rattle.mq_calls.specs.from_objects.Slots.{present}
 use Rattle.mq_sc_apply.specs.Displayed.{lines_of}
 use Rattle.mq_sc_apply.proofs.display.object_lines.Given as goal
 

@@ -1,6 +1,6 @@
 use Rattle.std.proofs.Common.{◌≡◌, OnOk, sym, subst}
-use Rattle.mq_objects.specs.declared.object.Object.{Object}
-use Rattle.mq_objects.specs.Written.{put_all}
+use Rattle.mq_calls.specs.from_objects.{Object}
+use Rattle.mq_calls.specs.from_objects.Written.{put_all}
 use Rattle.mq_sc_apply.specs.Displayed.{shown_attributes}
 use Rattle.mq_sc_apply.proofs.display.write_shown.Goals as goal
 

@@ -1,5 +1,5 @@
 use Rattle.std.proofs.Common.{◌≡◌, drop, filter}
-use Rattle.mq_objects.specs.Settings.{set_all}
+use Rattle.mq_calls.specs.from_objects.Settings.{set_all}
 use Rattle.mq_sc_apply.specs.Planned.{is_type_setting}
 use Rattle.mq_sc_apply.proofs.plans.give_types.Given as goal
 

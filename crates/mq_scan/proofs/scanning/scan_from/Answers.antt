@@ -3,7 +3,7 @@ use Rattle.std.specs.Prelude.{Some}
 use Rattle.mq_queue.specs.Rows.{is_after}
 use Rattle.mq_queue.proofs.QueueLaws.{length_kept}
 use Rattle.mq_spec_manager.specs.Get.{Scan}
-use Rattle.mq_place.proofs.KeyLaws.{ok_of}
+use Rattle.mq_place.proofs.TestLaws.{ok_of}
 use Rattle.mq_scan.proofs.ScanLaws.{scan_after, no_more, met_next, found_here, left_fewer, scan_end, met_more, met_all}
 use Rattle.mq_scan.proofs.scanning.scan_from.Goals as goal
 

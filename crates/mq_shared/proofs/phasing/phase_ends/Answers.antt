@@ -1,7 +1,7 @@
 use Rattle.std.proofs.Common.{◌<◌, List, length, refl, sym, ap, ◌∙◌, arith}
 use Rattle.std.specs.Prelude.{slice_get}
 use Rattle.std.proofs.lemmas.Option.{slice_get_read}
-use Rattle.mq_events.specs.States.{NodeState}
+use Rattle.mq_acts.specs.from_events.States.{NodeState}
 use Rattle.mq_shared.proofs.ReadyLaws.{all_ready, may_more}
 use Rattle.mq_shared.proofs.phasing.phase_ends.Goals as goal
 

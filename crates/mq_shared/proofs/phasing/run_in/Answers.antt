@@ -1,6 +1,6 @@
 use Rattle.std.proofs.Common.{◌≡◌, List, length, ap, arith, rules, subst, sym, ◌∙◌}
 use Rattle.std.specs.Prelude.{slice_get}
-use Rattle.mq_events.specs.States.{NodeState}
+use Rattle.mq_acts.specs.from_events.States.{NodeState}
 use Rattle.mq_split.specs.Opening.{wholes}
 use Rattle.mq_split.specs.Parting.{AllFree}
 use Rattle.mq_split.specs.Took.{EndState}

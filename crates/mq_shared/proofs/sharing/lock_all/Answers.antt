@@ -1,6 +1,6 @@
 use Rattle.std.proofs.Common.{◌≡◌, ℕ, [], length, ap, arith, subst, ◌∙◌}
 use Rattle.std.specs.Prelude.{◌≤◌, Some, slice_get}
-use Rattle.mq_events.specs.States.{NodeState}
+use Rattle.mq_acts.specs.from_events.States.{NodeState}
 use Rattle.mq_split.specs.Ends.{AreFree, EndsApart}
 use Rattle.mq_shared.specs.Held.{cables_begun}
 use Rattle.mq_split.specs.Parting.{AreEndsAt, EndRowState, ends_named, none_since}

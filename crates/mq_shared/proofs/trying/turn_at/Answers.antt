@@ -1,6 +1,6 @@
 use Rattle.std.proofs.Common.{List, [], subst}
 use Rattle.mq_cable.specs.declared.item.Item.{Item}
-use Rattle.mq_turns.specs.Unseen.{EndTurn}
+use Rattle.mq_takes.specs.from_turn_parts.Unseen.{EndTurn}
 use Rattle.mq_ruled.specs.Ends.{PipeEmpty, PipeEnds, PipeFull, PipeTook, PipeWrote}
 use Rattle.mq_split.specs.Ends.{end_actor}
 use Rattle.mq_split.specs.Took.{EndState}

@@ -1,8 +1,8 @@
 use Rattle.std.proofs.Common.{rules}
 use Rattle.std.specs.Prelude.{not}
 use Rattle.std.proofs.lemmas.Fn.{filter_same}
-use Rattle.mq_message.specs.declared.message.Ident.{Ident}
-use Rattle.mq_calls.specs.Words.{same_ident}
+use Rattle.mq_unit.specs.from_message.{Ident}
+use Rattle.mq_unit.specs.from_calls.Words.{same_ident}
 use Rattle.mq_sides.proofs.kept.drop_ident.Goals as goal
 
 pub returns : goal.returns

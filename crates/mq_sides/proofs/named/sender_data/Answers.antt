@@ -1,6 +1,6 @@
 use Rattle.std.proofs.Common.{◌≡◌, subst}
 use Rattle.std.specs.Prelude.{Option, IfOk}
-use Rattle.mq_calls.specs.Words.{SenderData, sender_or}
+use Rattle.mq_unit.specs.from_calls.Words.{SenderData, sender_or}
 use Rattle.mq_sides.proofs.named.sender_data.Goals as goal
 
 pub returns : goal.returns

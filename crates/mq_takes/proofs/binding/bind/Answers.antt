@@ -2,7 +2,7 @@ use Rattle.std.proofs.Common.{sym, subst, true}
 use Rattle.std.specs.Prelude.{Ok}
 use Rattle.mq_spec_manager.specs.Agents.{IsUp}
 use Rattle.mq_core.specs.Values.{CoreValue}
-use Rattle.mq_manager.proofs.CallLaws.{kept_bound}
+use Rattle.mq_turn_parts.proofs.from_manager.CallLaws.{kept_bound}
 use Rattle.mq_takes.proofs.binding.bind.Goals as goal
 
 pub invariant_of-manager : goal.invariant_of-manager

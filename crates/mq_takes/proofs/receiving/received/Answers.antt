@@ -1,6 +1,6 @@
 use Rattle.std.proofs.Common.{subst, ap, ◌∙◌}
 use Rattle.std.specs.Prelude.{Err}
-use Rattle.mq_agents.specs.Ends.{by_place}
+use Rattle.mq_turn_parts.specs.from_agents.Ends.{by_place}
 use Rattle.mq_calls.specs.declared.agents.PlaceFault.{PlaceFault}
 use Rattle.mq_calls.specs.declared.agents.PlaceFault.TheVariants as faults
 use Rattle.mq_core.specs.Values.{manager_of}
@@ -8,7 +8,7 @@ use Rattle.mq_disk.specs.declared.cutter.Stop.TheVariants as stops
 use Rattle.mq_calls.specs.Meeting.{MeetsAs}
 use Rattle.mq_calls.specs.Meeting.Wants.{Anywhere}
 use Rattle.mq_spec_manager.specs.Agents.{receive}
-use Rattle.mq_turns.proofs.PartLaws.{want_made}
+use Rattle.mq_turn_parts.proofs.PartLaws.{want_made}
 use Rattle.mq_takes.proofs.PlaceLaws.{receive_short, received_ran, received_refused, received_stopped}
 use Rattle.mq_takes.proofs.receiving.received.Goals as goal
 

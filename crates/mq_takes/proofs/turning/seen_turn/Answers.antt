@@ -1,16 +1,16 @@
 use Rattle.std.proofs.Common.{[], refl}
-use Rattle.mq_turns.proofs.WireLaws.{sees_all, sees_empty}
-use Rattle.mq_turns.specs.Unseen.{Empty}
+use Rattle.mq_turn_parts.proofs.WireLaws.{has_seen, sees_empty}
+use Rattle.mq_turn_parts.specs.Unseen.{Empty}
 use Rattle.mq_takes.specs.Takes.{whole}
 use Rattle.mq_takes.proofs.LookLaws.{put_seen, turn_seen}
 use Rattle.mq_takes.proofs.turning.seen_turn.Goals as goal
 
 pub returns-in-Err : goal.returns-in-Err
 returns-in-Err g c = λ o.
-    put_seen c.args.parts.now c.put_back.new.parts c.args.end c.args.end _ _ _ _ _ o o c.requires.may refl c.put_back.ensures c.see.ensures.same.1 (record { same = refl; written = c.see.ensures.same.0 })
+    put_seen c.args.parts.now c.put_back.new.parts c.args.end c.args.end _ _ _ _ _ o o c.requires.may.acts refl c.put_back.ensures c.see.ensures.same.1 (record { same = refl; written = c.see.ensures.same.0 })
 
-pub sighted_turn-requires-clause-sees : goal.sighted_turn-requires-clause-sees
-sighted_turn-requires-clause-sees g c = sees_all _ _ _ _ c.in-Ok.ensures.saw
+pub sighted_turn-requires-clause-saw : goal.sighted_turn-requires-clause-saw
+sighted_turn-requires-clause-saw g c = has_seen _ _ _ _ c.in-Ok.ensures.saw c.in-Ok.ensures.stamp
 
 pub returns-in-Ok : goal.returns-in-Ok
 returns-in-Ok g c = λ o.

@@ -1,6 +1,6 @@
 use Rattle.std.proofs.Common.{refl, sym, ◌∙◌}
-use Rattle.mq_events.proofs.CountLaws.{node_low}
-use Rattle.mq_turns.proofs.DueLaws.{room_kept, room_may, room_served}
+use Rattle.mq_turn_parts.proofs.from_events.CountLaws.{node_low}
+use Rattle.mq_turn_parts.proofs.DueLaws.{room_kept, room_may, room_served}
 use Rattle.mq_takes.proofs.LiftLaws.{down_rests, low_room, rests_so, room_taken, up_room, wants_so, wants_still}
 use Rattle.mq_takes.proofs.turning.turn_at.Goals as goal
 

@@ -10,11 +10,11 @@ returns-in-None g c =
     (c.lift.ensures.left ∙ ap (λ (o : Own). record c.args.parts.now { own = o }) (none_lifted c.args.cable c.args.parts.now.own (sym c.in-None.ensures.end)))
     c.requires.kept (absent_rests c.args.parts.now c.args.cable (sym c.in-None.ensures.end)) (g.met.W.Wire.reads_none c.args.wire.now) (g.met.W.Wire.writes_none c.args.wire.now)
 
-pub lifted_turn-requires-clause-room : goal.lifted_turn-requires-clause-room
-lifted_turn-requires-clause-room g c = room_lifted c.args.parts.now c.lift.new.parts (with_lifted c.args.cable c.args.parts.now.own) c.lift.ensures.left c.requires.room
-
 pub lifted_turn-requires-clause-may : goal.lifted_turn-requires-clause-may
-lifted_turn-requires-clause-may g c = may_take c.args.parts.now c.lift.new.parts c.args.cable c.in-Some.end (sym c.in-Some.ensures.end) c.lift.ensures.left c.requires.kept c.requires.served c.requires.may c.requires.up
+lifted_turn-requires-clause-may g c = record {
+  room = room_lifted c.args.parts.now c.lift.new.parts (with_lifted c.args.cable c.args.parts.now.own) c.lift.ensures.left c.requires.room;
+  acts = may_take c.args.parts.now c.lift.new.parts c.args.cable c.in-Some.end (sym c.in-Some.ensures.end) c.lift.ensures.left c.requires.kept c.requires.served c.requires.may c.requires.up;
+}
 
 pub lifted_turn-requires-clause-few : goal.lifted_turn-requires-clause-few
 lifted_turn-requires-clause-few g c = low_lifted c.args.parts.now c.lift.new.parts (with_lifted c.args.cable c.args.parts.now.own) c.lift.ensures.left c.requires.few

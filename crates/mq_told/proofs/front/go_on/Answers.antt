@@ -1,7 +1,7 @@
 use Rattle.std.proofs.Common.{length, ap, ◌∙◌}
 use Rattle.std.specs.Prelude.{Ok, Err}
-use Rattle.mq_spec_log.specs.Applies.Start.{Later}
-use Rattle.mq_spec_log.specs.Bodies.{image_from, empty_image}
+use Rattle.mq_recover.specs.from_spec_log.Applies.Start.{Later}
+use Rattle.mq_recover.specs.from_spec_log.Bodies.{image_from, empty_image}
 use Rattle.mq_recover.specs.Recovering.{seen}
 use Rattle.mq_recover.specs.Found.{given_as}
 use Rattle.mq_told.proofs.ToldLaws.{goes_front, told_is, wants}

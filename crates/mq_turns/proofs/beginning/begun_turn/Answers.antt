@@ -1,4 +1,4 @@
-use Rattle.std.proofs.Common.{subst}
+use Rattle.std.proofs.Common.{subst, [], refl}
 use Rattle.std.specs.Prelude.{Some}
 use Rattle.mq_frame.specs.declared.frame.Seen.TheVariants as items
 use Rattle.mq_history.specs.declared.calls.Actor.TheVariants as actors
@@ -6,8 +6,8 @@ use Rattle.mq_history.specs.declared.calls.Call.TheVariants as calls
 use Rattle.mq_spec_manager.specs.Agents.{release_batch}
 use Rattle.mq_spec_node.specs.Words.{SenderEnd, parts_of, with_end}
 use Rattle.mq_spec_node.specs.Node.ChannelEnd.{Sends}
-use Rattle.mq_turns.specs.Turns.{IsBehind}
-use Rattle.mq_turns.specs.Told.{Closes}
+use Rattle.mq_turn_parts.specs.Turns.{IsBehind}
+use Rattle.mq_turn_parts.specs.Told.{Closes}
 use Rattle.mq_turns.proofs.BeginLaws.{begun_refused_so, begun_so, begun_wants_so}
 use Rattle.mq_turns.proofs.beginning.begun_turn.Goals as goal
 
@@ -24,6 +24,6 @@ returns-in-Refused g c = λ s k.
 pub returns-in-Offered : goal.returns-in-Offered
 returns-in-Offered g c = λ s k.
     let Z : SenderEnd → Type 0 = λ x. Closes (actors.Sender x.cable) calls.Turn c.args.told.choice c.args.told.delta (with_end (Sends c.end_after-after.result) c.args.parts.now.own)
-    (record { stamp = c.in-Offered.frame.stamp; pushed = Some c.in-Offered.frame; extras = c.in-Offered.extras; popped = items.Nothing }) c.new-received.result c.args.parts.now c.close_turn.new.parts in
-    begun_so s c.args.parts.now c.args.end c.args.n c.args.count c.args.stamp c.args.told.choice c.args.told.delta k c.close_turn.new.parts c.end_after-after.result c.in-Offered.frame c.in-Offered.extras c.new-received.result _ _ _ _ _
-    c.end_after-after.ensures c.new-received.ensures c.in-Offered.ensures.told (subst Z c.end.view_is c.close_turn.ensures) c.first_offer.ensures.read
+    (record { stamp = c.in-Offered.frame.stamp; pushed = Some c.in-Offered.frame; extras = c.in-Offered.extras; popped = items.Nothing }) [] c.args.parts.now c.end_turn.new.parts in
+    begun_so s c.args.parts.now c.args.end c.args.n c.args.count c.args.stamp c.args.told.choice c.args.told.delta k c.end_turn.new.parts c.end_after-after.result c.in-Offered.frame c.in-Offered.extras [] _ _ _ _ _
+    c.end_after-after.ensures refl c.in-Offered.ensures.told (subst Z c.end.view_is c.end_turn.ensures) c.first_offer.ensures.read

@@ -3,7 +3,7 @@ use Rattle.std.specs.Prelude.{Some}
 use Rattle.std.specs.Option.{option_map}
 use Rattle.mq_spec_manager.specs.Agents.{batch_row}
 use Rattle.mq_spec_node.specs.Words.{carried}
-use Rattle.mq_events.specs.States.{NodeState}
+use Rattle.mq_turn_parts.specs.from_events.States.{NodeState}
 use Rattle.mq_turns.proofs.BeginLaws.{first_as}
 use Rattle.mq_turns.proofs.beginning.first_offer.Goals as goal
 

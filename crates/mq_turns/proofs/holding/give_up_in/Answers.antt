@@ -5,8 +5,8 @@ use Rattle.mq_core.specs.Views.{PartsValue, frozen_of, plain_of}
 use Rattle.mq_core.specs.Ties.{Tied}
 use Rattle.mq_core.specs.Values.{CoreValue, bodies_in}
 use Rattle.mq_core.proofs.MeetLaws.{mode_up}
-use Rattle.mq_agents.specs.Removing.{without_one}
-use Rattle.mq_agents.proofs.EndLaws.{rows_view, tied_rows, times_freed, with_rows}
+use Rattle.mq_turn_parts.specs.from_agents.Removing.{without_one}
+use Rattle.mq_turn_parts.proofs.from_agents.EndLaws.{rows_view, tied_rows, times_freed, with_rows}
 use Rattle.mq_turns.proofs.GiveLaws.{gives_is, giving}
 use Rattle.mq_turns.proofs.holding.give_up_in.Goals as goal
 

@@ -1,6 +1,6 @@
 use Rattle.mq_spec_manager.specs.Agents.{hold_batch}
-use Rattle.mq_turns.proofs.AgentLaws.{agent_ran}
-use Rattle.mq_turns.proofs.PartLaws.{want_made}
+use Rattle.mq_turn_parts.proofs.AgentLaws.{agent_ran}
+use Rattle.mq_turn_parts.proofs.PartLaws.{want_made}
 use Rattle.mq_turns.proofs.holding.held.Goals as goal
 
 pub returns-in-Ok-clause-told : goal.returns-in-Ok-clause-told

@@ -1,7 +1,7 @@
 use Rattle.std.specs.Prelude.{false}
 use Rattle.mq_spec_manager.specs.Agents.{release_batch}
 use Rattle.mq_spec_node.specs.Words.{parts_of}
-use Rattle.mq_turns.proofs.TimeLaws.{made_left}
+use Rattle.mq_turn_parts.proofs.TimeLaws.{made_left}
 use Rattle.mq_turns.proofs.preparing.given_back.Goals as goal
 
 pub returns-in-Ok : goal.returns-in-Ok

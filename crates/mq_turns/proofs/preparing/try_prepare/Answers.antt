@@ -1,7 +1,7 @@
 use Rattle.std.proofs.Common.{subst}
 use Rattle.std.specs.Prelude.{Option, Ok}
 use Rattle.mq_spec_manager.specs.Agents.{prepare}
-use Rattle.mq_events.specs.declared.outcome.Told.{Told}
+use Rattle.mq_turn_parts.specs.from_events.{Told}
 use Rattle.mq_turns.specs.Prepares.{Prepared}
 use Rattle.mq_turns.proofs.PreparedLaws.{as_twice, still_held, still_up, tried_full}
 use Rattle.mq_turns.proofs.preparing.try_prepare.Goals as goal

@@ -14,4 +14,4 @@ pub returns-in-Prepare : goal.returns-in-Prepare
 returns-in-Prepare g c = passes_none c.args.end.cable _ _ _ _ _ _ c.prepare_turn.result _ (g.met.W.Wire.reads_none c.args.wire.now) (g.met.W.Wire.writes_none c.args.wire.now) tt (c.prepare_turn.ensures _)
 
 pub returns-in-Still : goal.returns-in-Still
-returns-in-Still g c = still_line c.args.parts.now c.args.end _ _ _ _ c.requires.acts (sym c.in-Still.is ∙ c.requires.next) (g.met.W.Wire.reads_none c.args.wire.now) (g.met.W.Wire.writes_none c.args.wire.now)
+returns-in-Still g c = still_line c.args.parts.now c.args.end _ _ _ _ c.requires.may.acts (sym c.in-Still.is ∙ c.requires.next) (g.met.W.Wire.reads_none c.args.wire.now) (g.met.W.Wire.writes_none c.args.wire.now)

@@ -1,5 +1,5 @@
-use Rattle.mq_events.proofs.CountLaws.{set_aside_node}
-use Rattle.mq_turns.proofs.DueLaws.{beside_kept, beside_may, beside_served}
+use Rattle.mq_turn_parts.proofs.from_events.CountLaws.{set_aside_node}
+use Rattle.mq_turn_parts.proofs.DueLaws.{beside_kept, beside_may, beside_served}
 use Rattle.mq_turns.proofs.NodeLaws.{aside_turn, aside_want, sent_node}
 use Rattle.mq_turns.proofs.turning.turn_aside.Goals as goal
 

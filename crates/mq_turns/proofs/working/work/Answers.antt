@@ -1,8 +1,8 @@
 use Rattle.std.proofs.Common.{subst}
 use Rattle.mq_spec_node.specs.Words.{SenderEnd}
 use Rattle.mq_turns.specs.Sends.{sender_parts}
-use Rattle.mq_turns.specs.Turns.{IsBehind, left_parts}
-use Rattle.mq_turns.proofs.TimeLaws.{made_left}
+use Rattle.mq_turn_parts.specs.Turns.{IsBehind, left_parts}
+use Rattle.mq_turn_parts.proofs.TimeLaws.{made_left}
 use Rattle.mq_turns.proofs.working.work.Goals as goal
 
 pub returns-in-Ok : goal.returns-in-Ok

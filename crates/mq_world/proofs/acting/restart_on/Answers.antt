@@ -1,7 +1,7 @@
 use Rattle.std.proofs.Common.{List, ap, ◌∙◌}
 use Rattle.mq_history.specs.declared.calls.Actor.TheVariants as actors
 use Rattle.mq_spec_node.specs.Terms.{Entry}
-use Rattle.mq_events.specs.States.{last_entry}
+use Rattle.mq_watch.specs.from_events.States.{last_entry}
 use Rattle.mq_world.specs.Settling.{cut_or}
 use Rattle.mq_world.proofs.NodeLaws.{restarts_then}
 use Rattle.mq_world.proofs.OwnLaws.{restart_settled}

@@ -1,7 +1,7 @@
 use Rattle.std.proofs.Common.{◌≡◌, ◌<◌, ◌++◌, List, length, take, drop, sym, ap, ◌∙◌, arith}
 use Rattle.std.specs.Prelude.{map}
-use Rattle.mq_events.specs.States.{NodeState, marked}
-use Rattle.mq_own.proofs.MapLaws.{mapped_all, mapped_long, mapped_next}
+use Rattle.mq_watch.specs.from_events.States.{NodeState, marked}
+use Rattle.mq_base.proofs.MapLaws.{mapped_all, mapped_long, mapped_next}
 use Rattle.mq_world.proofs.MarkLaws.{mapped_here}
 use Rattle.mq_world.proofs.marks.mark_all.Goals as goal
 

@@ -1,6 +1,6 @@
 use Rattle.std.proofs.Common.{◌≡◌, ◌++◌, take, drop}
 use Rattle.std.specs.Prelude.{map}
-use Rattle.mq_events.specs.States.{marked}
+use Rattle.mq_watch.specs.from_events.States.{marked}
 use Rattle.mq_world.proofs.marks.mark_all.Given as goal
 
 abbrev pub invariant-loop-at : goal.invariant-loop-at

@@ -1,7 +1,7 @@
 use Rattle.std.specs.Prelude.{◌-◌, vec_len, vec_capacity}
 use Rattle.std.proofs.Common.{ap, sym, ◌∙◌}
 use Rattle.mq_spec_node.specs.Words.{Own, begun_anew, node_of, opening_node}
-use Rattle.mq_events.specs.States.{NodeState}
+use Rattle.mq_watch.specs.from_events.States.{NodeState}
 use Rattle.mq_world_begin.specs.Rested.{as_given}
 use Rattle.mq_world.specs.Starting.{around, own_begun}
 use Rattle.mq_world.proofs.StartLaws.{made_so}

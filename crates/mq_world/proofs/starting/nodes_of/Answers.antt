@@ -2,7 +2,7 @@ use Rattle.std.specs.Prelude.{◌≡◌, List, Some, length, slice_get, refl}
 use Rattle.std.proofs.Common.{ap, arith, subst, sym, ◌∙◌}
 use Rattle.std.proofs.lemmas.Option.{slice_get_read}
 use Rattle.mq_history.specs.declared.scenario.ManagerLine.{ManagerLine}
-use Rattle.mq_events.specs.States.{NodeState}
+use Rattle.mq_watch.specs.from_events.States.{NodeState}
 use Rattle.mq_world_begin.proofs.PlaceLaws.{each_more, long_more, none_there}
 use Rattle.mq_world.specs.Starting.{IsRoom, StartsAt}
 use Rattle.mq_world.proofs.StartLaws.{all_front, first_of, next_of, opens_so, starts_at}

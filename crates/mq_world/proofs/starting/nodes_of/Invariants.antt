@@ -1,6 +1,6 @@
 use Rattle.std.proofs.Common.{◌≡◌, ◌≤◌, ◌+◌, ℕ, length, drop}
 use Rattle.std.specs.Prelude.{All, Some, reverse, slice_get, vec_len, vec_capacity}
-use Rattle.mq_events.specs.States.{NodeState}
+use Rattle.mq_watch.specs.from_events.States.{NodeState}
 use Rattle.mq_world.specs.Starting.{IsRoom, StartsAt}
 use Rattle.mq_world.proofs.starting.nodes_of.Given as goal
 

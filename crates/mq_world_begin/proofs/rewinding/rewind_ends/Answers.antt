@@ -1,7 +1,7 @@
 use Rattle.std.proofs.Common.{◌≡◌, ◌<◌, ◌++◌, List, length, take, drop, ap, ◌∙◌, arith}
 use Rattle.std.specs.Prelude.{map}
 use Rattle.mq_spec_node.specs.Node.{ChannelEnd}
-use Rattle.mq_own.proofs.MapLaws.{mapped_next, mapped_all, mapped_long}
+use Rattle.mq_base.proofs.MapLaws.{mapped_next, mapped_all, mapped_long}
 use Rattle.mq_world_begin.specs.Rested.{end_given}
 use Rattle.mq_world_begin.proofs.rewinding.rewind_ends.Goals as goal
 

@@ -2,7 +2,7 @@ use Rattle.std.proofs.Common.{sym, ap, subst, refl, ◌∙◌}
 use Rattle.std.specs.Prelude.{List}
 use Rattle.mq_calls.specs.Words.{change_connection}
 use Rattle.mq_calls.specs.declared.state.Connection.{Connection}
-use Rattle.mq_handles.specs.Seats.{closed}
+use Rattle.mq_trigger.specs.from_handles.Seats.{closed}
 use Rattle.mq_core.specs.Views.{PartsValue}
 use Rattle.mq_core.specs.Ties.{SameUnits}
 use Rattle.mq_core.proofs.SeatLaws.{unit_kept, with_desk}

@@ -1,8 +1,8 @@
 use Rattle.std.proofs.Common.{sym, ap, subst, refl, ◌∙◌}
 use Rattle.std.specs.Prelude.{List, ◌++◌, ◌∷◌, [], ◌+◌}
 use Rattle.mq_calls.specs.declared.state.Connection.{Connection}
-use Rattle.mq_handles.specs.Desks.{Desk}
-use Rattle.mq_handles.specs.Seats.{connection_of}
+use Rattle.mq_trigger.specs.from_handles.Desks.{Desk}
+use Rattle.mq_trigger.specs.from_handles.Seats.{connection_of}
 use Rattle.mq_core.specs.Views.{PartsValue}
 use Rattle.mq_core.specs.Ties.{SameUnits}
 use Rattle.mq_core.proofs.SeatLaws.{one_more, same_units, with_desk}

@@ -1,7 +1,7 @@
 use Rattle.std.proofs.Common.{ℕ, ◌+◌, ◌∙◌, ap, arith}
 use Rattle.std.specs.Prelude.{length}
 use Rattle.mq_log.specs.State.{LogState}
-use Rattle.mq_record.specs.Room.{Buffered}
+use Rattle.mq_sides.specs.from_record.Room.{Buffered}
 use Rattle.mq_core.specs.Views.{PartsValue}
 use Rattle.mq_core.proofs.PutLaws.{more_room}
 use Rattle.mq_core.proofs.RoomLaws.{with_parts, given_up_queues}

@@ -3,7 +3,7 @@ use Rattle.std.specs.Prelude.{List, length, OnOk}
 use Rattle.mq_calls.specs.Words.{record_size}
 use Rattle.mq_calls.specs.declared.records.LogRecord.{LogRecord}
 use Rattle.mq_log.specs.State.{LogState, Appended}
-use Rattle.mq_record.specs.Records.{record_bytes}
+use Rattle.mq_sides.specs.from_record.Records.{record_bytes}
 use Rattle.mq_core.specs.Writes.{FitsRecord}
 use Rattle.mq_core.specs.Views.{PartsValue}
 use Rattle.mq_core.specs.Forced.{IsForced}

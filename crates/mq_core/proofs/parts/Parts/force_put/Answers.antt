@@ -5,9 +5,9 @@ use Rattle.mq_base.specs.Outside.{Rose}
 use Rattle.mq_calls.specs.Words.{need}
 use Rattle.mq_log.specs.State.{LogState, Appended}
 use Rattle.mq_log.specs.Force.{Stops}
-use Rattle.mq_record.specs.Records.{record_bytes, add_bytes}
-use Rattle.mq_record.specs.Room.{Buffered}
-use Rattle.mq_record.proofs.SizeLaws.{record_whole}
+use Rattle.mq_sides.specs.from_record.Records.{record_bytes, add_bytes}
+use Rattle.mq_sides.specs.from_record.Room.{Buffered}
+use Rattle.mq_sides.proofs.from_record.SizeLaws.{record_whole}
 use Rattle.mq_core.specs.Views.{PartsValue}
 use Rattle.mq_core.specs.Writes.{added}
 use Rattle.mq_core.proofs.RoomLaws.{with_parts, put_bytes_are, put_pieces, put_is_record}

@@ -3,8 +3,8 @@ use Rattle.std.specs.Prelude.{List}
 use Rattle.mq_calls.specs.Words.{connection_at, change_connection}
 use Rattle.mq_calls.specs.declared.state.Connection.{Connection}
 use Rattle.mq_spec_manager.specs.Words.{new_handle}
-use Rattle.mq_handles.specs.Desks.{Desk}
-use Rattle.mq_handles.specs.Seats.{opened}
+use Rattle.mq_trigger.specs.from_handles.Desks.{Desk}
+use Rattle.mq_trigger.specs.from_handles.Seats.{opened}
 use Rattle.mq_core.specs.Views.{PartsValue}
 use Rattle.mq_core.specs.Ties.{SameUnits}
 use Rattle.mq_core.proofs.SeatLaws.{unit_kept, same_units, with_desk}

@@ -1,5 +1,5 @@
 use Rattle.std.proofs.Common.{◌∙◌, sym, ap, subst}
-use Rattle.mq_handles.specs.Desks.{Desk}
+use Rattle.mq_trigger.specs.from_handles.Desks.{Desk}
 use Rattle.mq_place.specs.States.{QueueStates}
 use Rattle.mq_core.specs.Views.{PartsValue}
 use Rattle.mq_core.specs.Forced.{HasMoreRoom, returned}

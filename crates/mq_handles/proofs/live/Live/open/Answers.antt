@@ -5,7 +5,7 @@ use Rattle.mq_calls.specs.declared.state.Connection.{Connection}
 use Rattle.mq_handles.specs.Rising.{has_number}
 use Rattle.mq_handles.specs.Seats.{opened}
 use Rattle.std.specs.Prelude.{◌+◌, ◌<◌}
-use Rattle.mq_spec_manager.specs.Handles.{new_handle}
+use Rattle.mq_unit.specs.from_spec_manager.Handles.{new_handle}
 use Rattle.mq_handles.specs.Desks.{Desk}
 use Rattle.mq_handles.proofs.OutcomeLaws.{on_ok, on_err, if_ok, either_way, some_of}
 use Rattle.mq_handles.proofs.DeskLaws.{at_none, at_get, changed_at, set_same, desk_put}

@@ -1,5 +1,5 @@
 use Rattle.std.proofs.Common.{sym, subst, ◌≤◌}
-use Rattle.mq_resolve.specs.declared.route.PathStep.TheVariants.{DefXmitq}
+use Rattle.mq_calls.specs.from_resolve.PathStepVariants.{DefXmitq}
 use Rattle.mq_calls.specs.Words.{PathStep}
 use Rattle.mq_handles.specs.declared.users.Count.{Count}
 use Rattle.mq_handles.specs.Users.{one_step, count_in, key_weight, tally, IsLess}

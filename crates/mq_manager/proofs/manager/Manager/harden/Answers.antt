@@ -1,7 +1,7 @@
 use Rattle.std.proofs.Common.{sym, subst}
 use Rattle.mq_spec_manager.specs.Agents.{IsUp, CanHarden}
-use Rattle.mq_core.specs.Values.{CoreValue}
-use Rattle.mq_agents.specs.Ends.{by_agent}
+use Rattle.mq_receive.specs.from_core.Values.{CoreValue}
+use Rattle.mq_receive.specs.from_agents.Ends.{by_agent}
 use Rattle.mq_manager.proofs.CallLaws.{kept_hardened}
 use Rattle.mq_manager.proofs.manager.Manager.harden.Goals as goal
 

@@ -1,7 +1,7 @@
 use Rattle.std.proofs.Common.{sym, subst}
 use Rattle.std.specs.Prelude.{Ok}
 use Rattle.mq_spec_manager.specs.Agents.{IsUp}
-use Rattle.mq_core.specs.Values.{CoreValue}
+use Rattle.mq_receive.specs.from_core.Values.{CoreValue}
 use Rattle.mq_manager.proofs.CallLaws.{kept_leave}
 use Rattle.mq_manager.proofs.manager.Manager.leave.Goals as goal
 

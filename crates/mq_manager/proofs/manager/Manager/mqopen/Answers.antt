@@ -1,5 +1,5 @@
 use Rattle.std.proofs.Common.{◌^◌, sym, subst, arith}
-use Rattle.mq_core.specs.Values.{CoreValue}
+use Rattle.mq_receive.specs.from_core.Values.{CoreValue}
 use Rattle.mq_manager.proofs.CallLaws.{kept_open}
 use Rattle.mq_manager.proofs.CountLaws.{can_count}
 use Rattle.mq_manager.proofs.WellLaws.{handle_low}

@@ -1,7 +1,7 @@
 use Rattle.std.proofs.Common.{sym, subst}
 use Rattle.mq_spec_manager.specs.Agents.{IsUp, CanPrepare}
-use Rattle.mq_core.specs.Values.{CoreValue}
-use Rattle.mq_agents.specs.Ends.{by_prepare}
+use Rattle.mq_receive.specs.from_core.Values.{CoreValue}
+use Rattle.mq_receive.specs.from_agents.Ends.{by_prepare}
 use Rattle.mq_manager.proofs.CallLaws.{kept_prepared}
 use Rattle.mq_manager.proofs.manager.Manager.prepare.Goals as goal
 

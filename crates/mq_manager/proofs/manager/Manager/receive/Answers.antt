@@ -1,7 +1,7 @@
 use Rattle.std.proofs.Common.{sym, subst}
 use Rattle.mq_spec_manager.specs.Agents.{IsUp, CanReceive}
-use Rattle.mq_core.specs.Values.{CoreValue}
-use Rattle.mq_agents.specs.Ends.{by_place}
+use Rattle.mq_receive.specs.from_core.Values.{CoreValue}
+use Rattle.mq_receive.specs.from_agents.Ends.{by_place}
 use Rattle.mq_manager.specs.Facts.{MayCount}
 use Rattle.mq_manager.proofs.CallLaws.{kept_received}
 use Rattle.mq_manager.proofs.CountLaws.{can_count}

@@ -1,6 +1,6 @@
 use Rattle.std.proofs.Common.{◌≡◌, ◌+◌, ◌-◌, ℕ, List, ◌++◌, Some, None, sym, ap, ◌∙◌, arith}
 use Rattle.mq_message.specs.declared.message.Ident.{Ident}
-use Rattle.mq_place.proofs.KeyLaws.{ok_of}
+use Rattle.mq_place.proofs.TestLaws.{ok_of}
 use Rattle.mq_place.proofs.AfterLaws.{idents_left, idents_start, idents_none, idents_next, idents_done}
 use Rattle.mq_place.proofs.local.LocalRows.free_idents.Goals as goal
 

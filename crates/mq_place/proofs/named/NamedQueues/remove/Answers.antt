@@ -17,7 +17,7 @@ remove_at-requires g c = record { at = omega (arith, found_within _ _ _ c.self.i
 
 pub invariant_of-self : goal.invariant_of-self
 invariant_of-self g c =
-    subst (λ (slots : List (Option QueueState)). IsFiled slots (get bytes_eq c.self.inside.places) (index_map_len c.self.inside.places)) (sym c.remove_at.ensures.slots)
+    subst (λ (slots : List (Option QueueState)). IsFiled slots (get bytes_eq c.self.inside.places) (index_map_len c.self.inside.places)) (sym c.remove_at.ensures.becomes.slots)
     (filed_change _ _ _ c.self.invariant (on_rows (remove_each (c.args.ident.now ∷ []))) (λ s. refl) c.in-Some.place.now)
 
 pub returns-in-None-clause-states : goal.returns-in-None-clause-states
@@ -28,8 +28,8 @@ returns-in-None-clause-states g c =
 pub returns-in-Some-clause-states : goal.returns-in-Some-clause-states
 returns-in-Some-clause-states g c =
     call_some _ _ _ c.self.view_is (on_queues (kept_in (Among c.args.name.now (c.args.ident.now ∷ []))))
-    (ap present c.remove_at.ensures.slots ∙ present_change _ _ _ c.self.invariant (on_rows (remove_each (c.args.ident.now ∷ []))) (λ s. refl) c.args.name.now c.in-Some.place.now (sym c.in-Some.ensures.value) ∙ removed_one c.args.name.now (c.args.ident.now ∷ []) (present c.self.inside.slots.items) (apart c.self.inside.slots.items c.self.invariant.distinct))
-    (λ i. min (spare c.self.inside.places) (c.remove_at.ensures.capacity i - c.remove_at.ensures.len i))
+    (ap present c.remove_at.ensures.becomes.slots ∙ present_change _ _ _ c.self.invariant (on_rows (remove_each (c.args.ident.now ∷ []))) (λ s. refl) c.args.name.now c.in-Some.place.now (sym c.in-Some.ensures.value) ∙ removed_one c.args.name.now (c.args.ident.now ∷ []) (present c.self.inside.slots.items) (apart c.self.inside.slots.items c.self.invariant.distinct))
+    (λ i. min (spare c.self.inside.places) (c.remove_at.ensures.becomes.capacity i - c.remove_at.ensures.becomes.len i))
 
 pub returns-in-None-clause-message : goal.returns-in-None-clause-message
 returns-in-None-clause-message g c =

@@ -1,7 +1,7 @@
 use Rattle.std.proofs.Common.{sym, ap, ◌∙◌, subst}
 use Rattle.mq_place.specs.States.{QueueStates, expecting}
 use Rattle.mq_place.specs.Homes.{home_of}
-use Rattle.mq_place.proofs.KeyLaws.{ok_of}
+use Rattle.mq_place.proofs.TestLaws.{ok_of}
 use Rattle.mq_place.specs.Due.{is_noted, AreListed}
 use Rattle.mq_place.proofs.DueLaws.{listed_one}
 use Rattle.mq_place.proofs.HomeLaws.{noted_expecting}

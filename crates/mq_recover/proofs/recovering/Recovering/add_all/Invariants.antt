@@ -1,7 +1,7 @@
 use Rattle.std.proofs.Common.{◌≡◌}
 use Rattle.std.specs.Prelude.{reverse, length}
-use Rattle.mq_spec_log.specs.Applies.{can_add_all}
-use Rattle.mq_spec_log.specs.Shelves.{added_all}
+use Rattle.mq_recover_read.specs.from_spec_log.Applies.{can_add_all}
+use Rattle.mq_recover_read.specs.from_spec_log.Shelves.{added_all}
 use Rattle.mq_recover.specs.Recovering.{seen}
 use Rattle.mq_recover.proofs.recovering.Recovering.add_all.Given as goal
 

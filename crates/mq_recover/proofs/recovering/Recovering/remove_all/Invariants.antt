@@ -1,6 +1,6 @@
 use Rattle.std.proofs.Common.{◌≡◌, drop}
-use Rattle.mq_spec_log.specs.Applies.{can_remove_all}
-use Rattle.mq_spec_log.specs.Shelves.{removed_all}
+use Rattle.mq_recover_read.specs.from_spec_log.Applies.{can_remove_all}
+use Rattle.mq_recover_read.specs.from_spec_log.Shelves.{removed_all}
 use Rattle.mq_recover.specs.Recovering.{seen}
 use Rattle.mq_recover.proofs.recovering.Recovering.remove_all.Given as goal
 

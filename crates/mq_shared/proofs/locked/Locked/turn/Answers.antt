@@ -1,6 +1,6 @@
 use Rattle.std.proofs.Common.{Bool, [], subst, sym}
 use Rattle.std.specs.Prelude.{slice_set}
-use Rattle.mq_turns.specs.Unseen.{IsUnseen, turn_deed}
+use Rattle.mq_takes.specs.from_turn_parts.Unseen.{IsUnseen, turn_deed}
 use Rattle.mq_ruled.specs.Ends.{PipeEmpty, PipeEnds, PipeFull, PipeTook}
 use Rattle.mq_split.specs.Ends.{end_actor}
 use Rattle.mq_shared.specs.Held.{Kept}

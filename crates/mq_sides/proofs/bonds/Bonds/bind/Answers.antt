@@ -1,6 +1,6 @@
 use Rattle.std.proofs.Common.{ℕ, List, true, ap, sym, subst, ◌∙◌}
 use Rattle.mq_sides.specs.declared.bonds.Bond.{Bond}
-use Rattle.mq_calls.specs.Words.{set_named}
+use Rattle.mq_unit.specs.from_calls.Words.{set_named}
 use Rattle.mq_sides.specs.Bonds.{BondsKept, KeepsSeats, bound_of, has_seat, seats_of}
 use Rattle.mq_sides.specs.Places.{AreByName}
 use Rattle.mq_sides.proofs.BondLaws.{bound_set, by_bond, kept_by_set, no_seat, seats_sorted}

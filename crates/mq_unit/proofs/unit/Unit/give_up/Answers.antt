@@ -1,5 +1,5 @@
 use Rattle.std.proofs.Common.{ℕ, List, ◌-◌, sym, subst}
-use Rattle.mq_calls.specs.declared.state.Item.{Item}
+use Rattle.mq_record.specs.from_calls.{Item}
 use Rattle.mq_unit.specs.Forced.{IsKept}
 use Rattle.mq_unit.proofs.UnitLaws.{kept_front}
 use Rattle.mq_unit.proofs.unit.Unit.give_up.Goals as goal

@@ -1,5 +1,5 @@
 use Rattle.std.proofs.Common.{ap, ◌∙◌, not, nat_eq}
-use Rattle.mq_calls.specs.declared.state.Item.{Item}
+use Rattle.mq_record.specs.from_calls.{Item}
 use Rattle.std.specs.Prelude.{List, is_some}
 use Rattle.mq_spec_manager.specs.Units.{adds_of, removes_of, record_of}
 use Rattle.mq_unit.proofs.UnitLaws.{is_forced}

@@ -3,7 +3,7 @@ use Rattle.std.proofs.Common.{ap, arith, subst, sym, ◌∙◌}
 use Rattle.mq_history.specs.Scenarios.{IsScenario}
 use Rattle.mq_history.specs.declared.scenario.Scenario.{Scenario}
 use Rattle.mq_spec_network.specs.Lawful.{AreOwn}
-use Rattle.mq_events.specs.States.{NodeState}
+use Rattle.mq_watch.specs.from_events.States.{NodeState}
 use Rattle.mq_world_begin.specs.Rested.{IsRested, RestState}
 use Rattle.mq_world.specs.Starting.{IsFresh, Starts}
 use Rattle.mq_world.specs.Worlds.{IsNetwork, NetState, history_in}

@@ -1,6 +1,6 @@
 use Rattle.std.specs.Prelude.{length, refl, slice_get}
 use Rattle.std.proofs.Common.{sym, ap, subst, ◌∙◌}
-use Rattle.mq_events.specs.States.{marked}
+use Rattle.mq_watch.specs.from_events.States.{marked}
 use Rattle.mq_world.specs.Worlds.{IsNetwork, NetState, course_in}
 use Rattle.mq_world.proofs.ListLaws.{long_map}
 use Rattle.mq_world.proofs.MarkLaws.{has_room, marked_so, marks_keep, marks_lift}

@@ -1,0 +1,3 @@
+-- Definitions of mq_record, passed on to the crates above.
+pub use Rattle.mq_record.specs.Records as Records
+pub use Rattle.mq_record.specs.Room as Room

@@ -1,0 +1,3 @@
+//! What of the crates below those above take through this one.
+
+pub use mq_manager::Manager;

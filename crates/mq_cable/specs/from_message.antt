@@ -1,0 +1,8 @@
+-- Definitions of mq_message, passed on to the crates above.
+pub use Rattle.mq_message.specs.Layout as Layout
+pub use Rattle.mq_message.specs.declared.message.Dest.{Dest}
+pub use Rattle.mq_message.specs.declared.message.Ident.{Ident}
+pub use Rattle.mq_message.specs.declared.message.Md.{Md}
+pub use Rattle.mq_message.specs.declared.message.Message.{Message}
+pub use Rattle.mq_message.specs.declared.place.Holder.TheVariants as HolderVariants
+pub use Rattle.mq_message.specs.declared.place.Holder.{Holder}

@@ -1,0 +1,2 @@
+pub mod from_objects
+pub mod from_resolve

@@ -1,0 +1,2 @@
+-- Definitions of mq_sides, passed on to the crates above.
+pub use Rattle.mq_sides.specs.Places as Places

@@ -1,0 +1,3 @@
+-- Definitions of mq_unit, passed on to the crates above.
+pub use Rattle.mq_sides.specs.from_unit.Forced as Forced
+pub use Rattle.mq_sides.specs.from_unit.Told as Told

@@ -1,0 +1,4 @@
+-- Definitions of mq_base, passed on to the crates above.
+pub use Rattle.mq_base.specs.Members as Members
+pub use Rattle.mq_base.specs.Name as Name
+pub use Rattle.mq_base.specs.Outside as Outside

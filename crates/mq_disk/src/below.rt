@@ -1,0 +1,3 @@
+//! What of the crates below those above take through this one.
+
+pub use mq_base::{ChName, Items, Label, NoMemory, QName};

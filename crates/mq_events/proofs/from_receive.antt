@@ -1,0 +1,3 @@
+-- Laws of mq_receive, passed on to the crates above.
+pub use Rattle.mq_manager.proofs.from_receive.LeadLaws as LeadLaws
+pub use Rattle.mq_manager.proofs.from_receive.PlanLaws as PlanLaws

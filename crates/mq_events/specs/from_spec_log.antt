@@ -1,0 +1,2 @@
+-- Definitions of mq_spec_log, passed on to the crates above.
+pub use Rattle.mq_manager.specs.from_spec_log.Applies as Applies

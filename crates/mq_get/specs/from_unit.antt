@@ -1,0 +1,2 @@
+-- Definitions of mq_unit, passed on to the crates above.
+pub use Rattle.mq_unit.specs.Told as Told

@@ -1,0 +1,12 @@
+-- Definitions of mq_objects, passed on to the crates above.
+pub use Rattle.mq_calls.specs.from_objects.Attributes as Attributes
+pub use Rattle.mq_calls.specs.from_objects.ChannelKindVariants as ChannelKindVariants
+pub use Rattle.mq_calls.specs.from_objects.ChannelTypeVariants as ChannelTypeVariants
+pub use Rattle.mq_calls.specs.from_objects.CommandVariants as CommandVariants
+pub use Rattle.mq_calls.specs.from_objects.Defaults as Defaults
+pub use Rattle.mq_calls.specs.from_objects.Names as Names
+pub use Rattle.mq_calls.specs.from_objects.SettingVariants as SettingVariants
+pub use Rattle.mq_calls.specs.from_objects.SubjectVariants as SubjectVariants
+pub use Rattle.mq_calls.specs.from_objects.TriggerTypeVariants as TriggerTypeVariants
+pub use Rattle.mq_calls.specs.from_objects.UsageVariants as UsageVariants
+pub use Rattle.mq_calls.specs.from_objects.{Channel, ChannelKind, Definitions, LocalQueue, Object, Process}

@@ -1,0 +1,2 @@
+-- Laws of mq_law_events, passed on to the crates above.
+pub use Rattle.mq_law_events.proofs.Telling as Telling

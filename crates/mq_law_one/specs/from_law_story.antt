@@ -1,0 +1,3 @@
+-- Definitions of mq_law_story, passed on to the crates above.
+pub use Rattle.mq_law_story.specs.Needs as Needs
+pub use Rattle.mq_law_story.specs.Told as Told

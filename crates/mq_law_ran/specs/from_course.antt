@@ -1,0 +1,2 @@
+-- Definitions of mq_course, passed on to the crates above.
+pub use Rattle.mq_course.specs.Courses as Courses

@@ -1,0 +1,2 @@
+-- Laws of mq_law_story, passed on to the crates above.
+pub use Rattle.mq_law_one.proofs.from_law_story.Weaving as Weaving

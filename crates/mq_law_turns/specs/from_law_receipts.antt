@@ -1,0 +1,2 @@
+-- Definitions of mq_law_receipts, passed on to the crates above.
+pub use Rattle.mq_law_receipts.specs.Receipts as Receipts

@@ -1,0 +1,3 @@
+-- Definitions of mq_law_rows, passed on to the crates above.
+pub use Rattle.mq_law_story.specs.from_law_rows.Kinds as Kinds
+pub use Rattle.mq_law_story.specs.from_law_rows.World as World

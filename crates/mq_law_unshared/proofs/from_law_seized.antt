@@ -1,0 +1,2 @@
+-- Laws of mq_law_seized, passed on to the crates above.
+pub use Rattle.mq_law_seized.proofs.Each as Each

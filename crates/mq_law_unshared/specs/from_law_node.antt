@@ -1,0 +1,3 @@
+-- Definitions of mq_law_node, passed on to the crates above.
+pub use Rattle.mq_law_keys.specs.from_law_node.Deeds as Deeds
+pub use Rattle.mq_law_keys.specs.from_law_node.Quiet as Quiet

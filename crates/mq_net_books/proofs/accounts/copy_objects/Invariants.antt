@@ -1,6 +1,0 @@
-use Rattle.std.proofs.Common.{◌≡◌, ◌++◌, drop}
-use Rattle.mq_objects.specs.Slots.{present}
-use Rattle.mq_net_books.proofs.accounts.copy_objects.Given as goal
-
-abbrev pub invariant-loop-slot : goal.invariant-loop-slot
-invariant-loop-slot l = l.objects ++ present (drop l.slot-index l.slots) ≡ present l.fn.slots

@@ -1,0 +1,1 @@
+pub mod from_spec_log

@@ -1,0 +1,5 @@
+-- Definitions of mq_core, passed on to the crates above.
+pub use Rattle.mq_redo.specs.from_core.Ties as Ties
+pub use Rattle.mq_redo.specs.from_core.Values as Values
+pub use Rattle.mq_redo.specs.from_core.Views as Views
+pub use Rattle.mq_redo.specs.from_core.{Mode}

@@ -1,0 +1,2 @@
+-- Definitions of mq_spec_manager, passed on to the crates above.
+pub use Rattle.mq_spec_manager.specs.Stops as Stops

@@ -1,0 +1,4 @@
+-- Definitions of mq_heads, passed on to the crates above.
+pub use Rattle.mq_heads.specs.Headers as Headers
+pub use Rattle.mq_heads.specs.Stamps as Stamps
+pub use Rattle.mq_heads.specs.declared.headers.Dlh.{Dlh}

@@ -1,0 +1,14 @@
+pub mod Turns
+pub mod Told
+pub mod Wired
+pub mod Acting
+pub mod Unseen
+pub mod OverWire
+pub mod from_agents
+pub mod from_events
+pub mod from_law_counts
+pub mod from_law_image
+pub mod from_manager
+pub mod from_receive
+pub mod from_restart
+pub mod from_spec_log

@@ -1,0 +1,3 @@
+-- Definitions of mq_manager, passed on to the crates above.
+pub use Rattle.mq_events.specs.from_manager.Facts as Facts
+pub use Rattle.mq_events.specs.from_manager.Kept as Kept

@@ -1,0 +1,2 @@
+-- Laws of mq_record, passed on to the crates above.
+pub use Rattle.mq_record.proofs.SizeLaws as SizeLaws
